@@ -1,0 +1,58 @@
+-- The events of a session as plain values.
+use mathlib.Core.Bool.{Bool, true}
+use mathlib.Core.Path.{_≡_}
+use Prim.Native.Nat.{ℕ, _≤_}
+use Rattle.std.specs.declared.option.Option.{Option}
+use Rattle.std.specs.declared.option.Option.the-variants.{Some, None}
+use Rattle.market.specs.declared.order.OrderTerms.{OrderTerms}
+use Rattle.market.specs.declared.price.Price.{Price}
+use Rattle.market.specs.Orders.{Sound, lawful-shares}
+use Rattle.session.specs.declared.event.Event.{Event}
+use Rattle.session.specs.declared.event.Event.the-variants.{Enter, Cancel, Quote, Publish, Lock, Shut, Cross}
+use Rattle.session.specs.declared.event.TimedEvent.{TimedEvent}
+use Rattle.session.specs.declared.field.Values.the-variants.{CentsOrNone}
+use Rattle.session.specs.Fields.{admits, last-time}
+
+-- what an event asks: to enter an order, to cancel shares of an entry number, to set a quote (0: none), ..
+pub data Call : Type 0 where
+  enter : OrderTerms → Call
+  cancel : (entry shares : ℕ) → Call
+  quote : (bid offer : ℕ) → Call
+  publish : Call
+  lock : Call
+  shut : Call
+  cross : Call
+
+pub record Timed : Type 0 where
+  pub time : ℕ
+  pub call : Call
+
+-- the calls that a file may hold
+abbrev pub SoundCall : Call → Type 0
+SoundCall (enter o) = Sound o
+SoundCall (cancel e n) = (1 ≤ e) × (lawful-shares n ≡ true)
+SoundCall (quote b o) = (admits CentsOrNone b ≡ true) × (admits CentsOrNone o ≡ true)
+SoundCall publish = Unit {0}
+SoundCall lock = Unit {0}
+SoundCall shut = Unit {0}
+SoundCall cross = Unit {0}
+
+abbrev pub SoundEvent : Timed → Type 0
+SoundEvent e = (e .time ≤ last-time) × SoundCall (e .call)
+
+-- what the program's own events say
+abbrev pub cents-of : Option Price → ℕ
+cents-of None = 0
+cents-of (Some p) = p .cents
+
+abbrev pub call-of : Event → Call
+call-of (Enter o) = enter (o .terms)
+call-of (Cancel e n) = cancel e n
+call-of (Quote q) = quote (cents-of (q .bid)) (cents-of (q .offer))
+call-of Publish = publish
+call-of Lock = lock
+call-of Shut = shut
+call-of Cross = cross
+
+abbrev pub timed : TimedEvent → Timed
+timed e = record { time = e .time; call = call-of (e .event) }
