@@ -1,2 +1,4 @@
 pub mod FieldSteps
 pub mod RecordSteps
+pub mod Masks
+pub mod Bodies

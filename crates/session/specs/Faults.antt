@@ -78,10 +78,13 @@ wrong-length file kind = cond (fits kind (told file kind)) None (Some (at 4 2 (s
 abbrev pub wrong-field : List ℕ → BodyKind → Option Cause
 wrong-field file kind = mapped (λ b. at 5 3 (start file kind + b)) (bad-field kind (body file kind))
 
--- no cause: the file is accepted
-abbrev pub fault : List ℕ → Option Cause
-fault file =
+-- layer 1: the file's size, its mask, and the sum of its parts
+abbrev pub contents-fault : List ℕ → Option Cause
+contents-fault file =
     cond (eqb (length file) 0 || ltb largest-file (length file)) (Some (at 1 1 0))
     (cond (ltb 15 (mask file) || (not (present file Heading) || ltb (length file) (contents file))) (Some (at 2 1 0))
-    (cond (not (eqb (end file) (length file))) (Some (at 3 1 1))
-    (or-else (first-of (wrong-length file)) (first-of (wrong-field file)))))
+    (cond (eqb (end file) (length file)) None (Some (at 3 1 1))))
+
+-- layer by layer, the lowest number first; no cause: the file is accepted
+abbrev pub fault : List ℕ → Option Cause
+fault file = or-else (contents-fault file) (or-else (first-of (wrong-length file)) (first-of (wrong-field file)))

@@ -2,5 +2,6 @@ pub mod Fields
 pub mod Events
 pub mod Records
 pub mod Contents
+pub mod Handed
 pub mod Faults
 pub mod Layout

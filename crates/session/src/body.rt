@@ -1,5 +1,8 @@
 //! The bodies of a session file.
 
+pub(crate) mod contents;
+pub(crate) mod layers;
+
 /// The kinds of bodies, in their sequence in the file.
 #[derive(Clone, Copy)]
 pub enum BodyKind {

@@ -1,0 +1,70 @@
+//! Layers 2 and 3: the lengths of the bodies, and their fields.
+
+ghost use mathlib.Core.Path.{_≡_};
+ghost use Prim.Native.Nat.{_+_, _≤_};
+ghost use lib.ListN.{length};
+ghost use Rattle.std.specs.Results.{Cases};
+ghost use Rattle.std.specs.declared.option.Option.the-variants.{Some, None};
+ghost use mathlib.Core.Bool.{true};
+ghost use Rattle.market.specs.Causes.{cause};
+ghost use Rattle.session.specs.Contents.{body, told};
+ghost use Rattle.session.specs.Faults.{bad-field, contents-fault, first-of, fits, wrong-field, wrong-length};
+ghost use Rattle.session.specs.Handed.{bytes-of, kind-of};
+use super::Body;
+use super::BodyKind;
+use super::contents::start_of;
+use super::contents::told_length;
+use crate::field::first_bad_field;
+use crate::record::Record;
+use crate::record::fields::heading_fields;
+use market::refusal::Refusal;
+
+const HEADING_SIZE: usize = 8;
+
+const MOST_RESTING: usize = 256;
+
+/// The body of a kind, as the bytes of the file that it is; an absent one has none.
+pub(crate) fn body_of<'a>(file: &'a [u8], kind: BodyKind) -> Body<'a>
+    requires { ⌜ contents-fault (now file) ≡ None ⌝ }
+    ensures kind { λ r. ⌜ kind-of r ≡ kind ⌝ }
+    ensures bytes { λ r. ⌜ bytes-of r ≡ body (now (file .entry)) kind ⌝ }
+{
+    let from = start_of(file, kind);
+    let bytes = &file[from..from + told_length(file, kind)];
+    match kind {
+        BodyKind::Heading => Body::Heading(bytes),
+        BodyKind::Resting => Body::Resting(bytes),
+        BodyKind::Events => Body::Events(bytes),
+        BodyKind::Note => Body::Note(bytes),
+    }
+}
+
+impl<'a> Body<'a> {
+    /// Whether a body of its kind can have its length.
+    fn fits(self) -> bool
+        ensures { λ r. ⌜ r ≡ fits (kind-of (self .entry)) (length (bytes-of (self .entry))) ⌝ }
+    {
+        match self {
+            Body::Heading(bytes) => bytes.len() == HEADING_SIZE,
+            Body::Resting(bytes) => {
+                let size = Record::Order.size();
+                bytes.len() % size == 0 && bytes.len() <= size * MOST_RESTING
+            }
+            Body::Events(bytes) => bytes.len() % Record::Event.size() == 0,
+            Body::Note(_) => true,
+        }
+    }
+
+    /// The first field that is outside its values.
+    fn first_bad(self) -> Option<usize>
+        requires { ⌜ fits (kind-of self) (length (bytes-of self)) ≡ true ⌝ }
+        ensures { λ r. ⌜ r ≡ bad-field (kind-of (self .entry)) (bytes-of (self .entry)) ⌝ }
+    {
+        match self {
+            Body::Heading(bytes) => first_bad_field(bytes, 0, &heading_fields()),
+            Body::Resting(bytes) => Record::Order.first_bad_in(bytes),
+            Body::Events(bytes) => Record::Event.first_bad_in(bytes),
+            Body::Note(_) => None,
+        }
+    }
+}
