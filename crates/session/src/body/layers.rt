@@ -68,3 +68,47 @@ impl<'a> Body<'a> {
         }
     }
 }
+
+/// Layer 2 of one body.
+fn check_length(file: &[u8], kind: BodyKind) -> Result<(), Refusal>
+    requires { ⌜ contents-fault (now file) ≡ None ⌝ }
+    ensures { λ r. ⌜ Cases r (λ _. wrong-length (now (file .entry)) kind ≡ None) (λ e. wrong-length (now (file .entry)) kind ≡ Some (cause e)) ⌝ }
+{
+    if body_of(file, kind).fits() {
+        return Ok(());
+    }
+    Err(Refusal::BodyLength(start_of(file, kind) as u16))
+}
+
+/// Layer 3 of one body.
+fn check_body(file: &[u8], kind: BodyKind) -> Result<(), Refusal>
+    requires { ⌜ contents-fault (now file) ≡ None ⌝ ∗ ⌜ wrong-length (now file) kind ≡ None ⌝ }
+    ensures { λ r. ⌜ Cases r (λ _. wrong-field (now (file .entry)) kind ≡ None) (λ e. wrong-field (now (file .entry)) kind ≡ Some (cause e)) ⌝ }
+{
+    match body_of(file, kind).first_bad() {
+        Some(byte) => Err(Refusal::FiledField((start_of(file, kind) + byte) as u16)),
+        None => Ok(()),
+    }
+}
+
+/// Refuses a file with a body of a wrong length, by the first such body.
+pub(crate) fn check_lengths(file: &[u8]) -> Result<(), Refusal>
+    requires { ⌜ contents-fault (now file) ≡ None ⌝ }
+    ensures { λ r. ⌜ Cases r (λ _. first-of (wrong-length (now (file .entry))) ≡ None) (λ e. first-of (wrong-length (now (file .entry))) ≡ Some (cause e)) ⌝ }
+{
+    check_length(file, BodyKind::Heading)?;
+    check_length(file, BodyKind::Resting)?;
+    check_length(file, BodyKind::Events)?;
+    check_length(file, BodyKind::Note)
+}
+
+/// Refuses a file with a field outside its values, by the first such byte.
+pub(crate) fn check_fields(file: &[u8]) -> Result<(), Refusal>
+    requires { ⌜ contents-fault (now file) ≡ None ⌝ ∗ ⌜ first-of (wrong-length (now file)) ≡ None ⌝ }
+    ensures { λ r. ⌜ Cases r (λ _. first-of (wrong-field (now (file .entry))) ≡ None) (λ e. first-of (wrong-field (now (file .entry))) ≡ Some (cause e)) ⌝ }
+{
+    check_body(file, BodyKind::Heading)?;
+    check_body(file, BodyKind::Resting)?;
+    check_body(file, BodyKind::Events)?;
+    check_body(file, BodyKind::Note)
+}
