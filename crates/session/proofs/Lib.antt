@@ -4,3 +4,10 @@ pub mod Masks
 pub mod Bodies
 pub mod Acceptance
 pub mod FaultPlaces
+pub mod FieldFacts
+pub mod RecordLists
+pub mod HeadingRecord
+pub mod OrderRecords
+pub mod EnterFlags
+pub mod EventRecords
+pub mod FiledRecords

@@ -5,3 +5,4 @@ pub mod Contents
 pub mod Handed
 pub mod Faults
 pub mod Layout
+pub mod Filed

@@ -7,3 +7,4 @@ pub mod body;
 pub mod event;
 pub mod field;
 pub mod record;
+pub mod resting;

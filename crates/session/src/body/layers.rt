@@ -15,13 +15,13 @@ use super::BodyKind;
 use super::contents::start_of;
 use super::contents::told_length;
 use crate::field::first_bad_field;
+use crate::record::EVENT_SIZE;
+use crate::record::HEADING_SIZE;
+use crate::record::MOST_RESTING;
+use crate::record::ORDER_SIZE;
 use crate::record::Record;
 use crate::record::fields::heading_fields;
 use market::refusal::Refusal;
-
-const HEADING_SIZE: usize = 8;
-
-const MOST_RESTING: usize = 256;
 
 /// The body of a kind, as the bytes of the file that it is; an absent one has none.
 pub(crate) fn body_of<'a>(file: &'a [u8], kind: BodyKind) -> Body<'a>
@@ -47,10 +47,9 @@ impl<'a> Body<'a> {
         match self {
             Body::Heading(bytes) => bytes.len() == HEADING_SIZE,
             Body::Resting(bytes) => {
-                let size = Record::Order.size();
-                bytes.len() % size == 0 && bytes.len() <= size * MOST_RESTING
+                bytes.len() % ORDER_SIZE == 0 && bytes.len() <= ORDER_SIZE * MOST_RESTING
             }
-            Body::Events(bytes) => bytes.len() % Record::Event.size() == 0,
+            Body::Events(bytes) => bytes.len() % EVENT_SIZE == 0,
             Body::Note(_) => true,
         }
     }

@@ -5,6 +5,8 @@ ghost use Prim.Native.Nat.{_+_, _/_, _≤_};
 ghost use lib.ListN.{length};
 ghost use Rattle.session.specs.Fields.{first-bad};
 ghost use Rattle.session.specs.Faults.{fields-of, first-in, record-size};
+use super::EVENT_SIZE;
+use super::ORDER_SIZE;
 use super::Record;
 use super::fields::event_fields;
 use super::fields::order_fields;
@@ -12,12 +14,12 @@ use crate::field::first_bad_field;
 
 impl Record {
     /// How many bytes a record has.
-    pub(crate) fn size(self) -> usize
+    fn size(self) -> usize
         ensures { λ r. ⌜ r ≡ record-size self ⌝ }
     {
         match self {
-            Record::Order => 12,
-            Record::Event => 16,
+            Record::Order => ORDER_SIZE,
+            Record::Event => EVENT_SIZE,
         }
     }
 
