@@ -27,12 +27,9 @@ use Rattle.session.specs.Faults.{
   fault,
 }
 use Rattle.session.proofs.Bodies.{length-body}
+use Rattle.session.proofs.RecordLists.{or-none}
 
 -- ---- the first of several faults is none where each is
-
-pub or-none : {X : Type 0} (a b : Option X) → or-else a b ≡ None → (a ≡ None) × (b ≡ None)
-or-none None b e = (refl, e)
-or-none (Some x) b e = (e, cc)
 
 pub none-of : (f : BodyKind → Option Cause) → first-of f ≡ None → (kind : BodyKind) → f kind ≡ None
 none-of f e kind =

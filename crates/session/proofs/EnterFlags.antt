@@ -27,7 +27,8 @@ flags-below : (entry limit shares : ℕ) (f : ℕ) → f < 16 → f ≡ flags (e
 unfolding every
 flags-below e l n =
     let again : ℕ → ℕ = λ f. flags (entered f e l n) in
-    decides-below-and (λ f. eqb f (again f)) (λ f. f ≡ again f) (every (λ f. eqb f (again f))) (λ f. decides-eqb f (again f)) refl (λ _. refl) 16 .0 refl
+    let same : ℕ → Bool = λ f. eqb f (again f) in
+    decides-below-and same (λ f. f ≡ again f) (every same) (λ f. decides-eqb f (again f)) refl (λ _. refl) 16 .0 refl
 
 pub flags-again : (f entry limit shares : ℕ) → admits EnterFlags f ≡ true → f ≡ flags (entered f entry limit shares)
 flags-again f e l n h =
@@ -35,7 +36,8 @@ flags-again f e l n h =
     flags-below e l n f (omega arith)
 
 -- the limit read and written again
-pub limit-again : (market : Bool) (n : ℕ) → admits (cond market Zero Cents) n ≡ true → n ≡ limit-number (cond market Market (Limit n))
+pub limit-again : (market : Bool) (n : ℕ) → admits (cond market Zero Cents) n ≡ true
+    → n ≡ limit-number (cond market Market (Limit n))
 limit-again true n h = eqb-true n 0 h
 limit-again false n h = refl
 

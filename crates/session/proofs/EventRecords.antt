@@ -3,7 +3,7 @@
 use mathlib.Core.Bool.{true}
 use mathlib.Core.List.{List}
 use mathlib.Core.Path.{_≡_, refl, ap}
-use Prim.Native.Nat.{ℕ, zero, suc, _+_, _*_, _/_, _≤_}
+use Prim.Native.Nat.{ℕ, zero, suc, _+_, _*_, _/_}
 use native.Mathlib.Omega.{arith}
 use lib.Dec.{leb}
 use lib.ListN.{length}
@@ -46,29 +46,34 @@ use Rattle.session.proofs.EnterFlags.{limit-lawful, flags-again, limit-again, 
 
 -- what holds at each kind of event
 by-kind : (P : ℕ → Type 0) → P 1 → P 2 → P 3 → P 4 → P 5 → P 6 → P 7 → (k : ℕ) → admits EventKind k ≡ true → P k
-by-kind P p1 p2 p3 p4 p5 p6 p7 zero h = absurd (grind (arith, tells))
-by-kind P p1 p2 p3 p4 p5 p6 p7 (suc zero) h = p1
-by-kind P p1 p2 p3 p4 p5 p6 p7 (suc (suc zero)) h = p2
-by-kind P p1 p2 p3 p4 p5 p6 p7 (suc (suc (suc zero))) h = p3
-by-kind P p1 p2 p3 p4 p5 p6 p7 (suc (suc (suc (suc zero)))) h = p4
-by-kind P p1 p2 p3 p4 p5 p6 p7 (suc (suc (suc (suc (suc zero))))) h = p5
-by-kind P p1 p2 p3 p4 p5 p6 p7 (suc (suc (suc (suc (suc (suc zero)))))) h = p6
-by-kind P p1 p2 p3 p4 p5 p6 p7 (suc (suc (suc (suc (suc (suc (suc zero))))))) h = p7
-by-kind P p1 p2 p3 p4 p5 p6 p7 (suc (suc (suc (suc (suc (suc (suc (suc k)))))))) h = absurd (grind (arith, tells))
+by-kind P p q r s t u v zero h = absurd (grind (arith, tells))
+by-kind P p q r s t u v (suc zero) h = p
+by-kind P p q r s t u v (suc (suc zero)) h = q
+by-kind P p q r s t u v (suc (suc (suc zero))) h = r
+by-kind P p q r s t u v (suc (suc (suc (suc zero)))) h = s
+by-kind P p q r s t u v (suc (suc (suc (suc (suc zero))))) h = t
+by-kind P p q r s t u v (suc (suc (suc (suc (suc (suc zero)))))) h = u
+by-kind P p q r s t u v (suc (suc (suc (suc (suc (suc (suc zero))))))) h = v
+by-kind P p q r s t u v (suc (suc (suc (suc (suc (suc (suc (suc k)))))))) h = absurd (grind (arith, tells))
 
--- the fields after the kind
+-- the fields after the kind are good
 abbrev Named : (kind : ℕ) → List ℕ → ℕ → Type 0
 Named k bs at = Good (named-fields k (byte bs (at + 5))) bs at 5
 
+-- the call that is read where the kind is k
 abbrev call-at : (kind : ℕ) → List ℕ → ℕ → Call
 call-at k bs at = call-with k (byte bs (at + 5)) (two bs (at + 6)) (four bs (at + 8)) (four bs (at + 12))
 
-call-sound : (bs : List ℕ) (at : ℕ) → (k : ℕ) → admits EventKind k ≡ true → Named k bs at → SoundCall (call-at k bs at)
+entered-sound : (bs : List ℕ) (at : ℕ) → Named 1 bs at → SoundCall (call-at 1 bs at)
+entered-sound bs at g =
+    let f = byte bs (at + 5) in
+    let apart = and-parts (leb f 15) _ (g .0) .1 in
+    (limit-lawful (has f 2) (has f 4) _ apart (g .1 .1 .0), g .1 .1 .1 .0, leb-true 1 _ (g .1 .0))
+
+call-sound : (bs : List ℕ) (at k : ℕ) → admits EventKind k ≡ true → Named k bs at → SoundCall (call-at k bs at)
 call-sound bs at =
     by-kind (λ k. Named k bs at → SoundCall (call-at k bs at))
-    (λ g.
-    let f = and-parts (leb (byte bs (at + 5)) 15) _ (g .0) in
-    (limit-lawful (has (byte bs (at + 5)) 2) _ _ (f .1) (g .1 .1 .0), g .1 .1 .1 .0, leb-true 1 _ (g .1 .0)))
+    (entered-sound bs at)
     (λ g. (leb-true 1 _ (g .1 .0), g .1 .1 .1 .0))
     (λ g. (g .1 .1 .0, g .1 .1 .1 .0))
     (λ g. tt)
@@ -81,42 +86,52 @@ event-sound bs at e =
     let g = good (fields-of-event bs at) bs at e in
     (leb-true _ last-time (g .0), call-sound bs at (byte bs (at + 4)) (g .1 .0) (g .1 .1))
 
--- the numbers of the kinds that name nothing
+-- the record of a call again holds what is read from it
+entered-stands : (bs : List ℕ) (at : ℕ) → byte bs (at + 4) ≡ 1 → Named 1 bs at
+    → Stands (call-numbers (call-at 1 bs at)) bs at 4
+entered-stands bs at k g =
+    let f = byte bs (at + 5) in
+    let flagged = flags-again f (two bs (at + 6)) (four bs (at + 8)) (four bs (at + 12)) (g .0) in
+    (k, (flagged, (refl, (limit-again (has f 2) _ (g .1 .1 .0), (refl, tt)))))
+
+-- of the kinds that name nothing
 zeros-stand : (bs : List ℕ) (at k : ℕ) → byte bs (at + 4) ≡ k → Good (call-fields Zero Zero Zero Zero) bs at 5
     → Stands (call-row k 0 0 0 0) bs at 4
-zeros-stand bs at k q g =
-    (q, (eqb-true _ 0 (g .0), (eqb-true _ 0 (g .1 .0), (eqb-true _ 0 (g .1 .1 .0), (eqb-true _ 0 (g .1 .1 .1 .0), tt)))))
+zeros-stand bs at k e g =
+    let n = g .1 in
+    (e, (eqb-true _ 0 (g .0), (eqb-true _ 0 (n .0), (eqb-true _ 0 (n .1 .0), (eqb-true _ 0 (n .1 .1 .0), tt)))))
 
-call-stands : (bs : List ℕ) (at : ℕ) → (k : ℕ) → admits EventKind k ≡ true → byte bs (at + 4) ≡ k → Named k bs at
+call-stands : (bs : List ℕ) (at k : ℕ) → admits EventKind k ≡ true → byte bs (at + 4) ≡ k → Named k bs at
     → Stands (call-numbers (call-at k bs at)) bs at 4
 call-stands bs at =
     by-kind (λ k. byte bs (at + 4) ≡ k → Named k bs at → Stands (call-numbers (call-at k bs at)) bs at 4)
-    (λ q g.
-    let f = flags-again (byte bs (at + 5)) (two bs (at + 6)) (four bs (at + 8)) (four bs (at + 12)) (g .0) in
-    (q, (f, (refl, (limit-again (has (byte bs (at + 5)) 2) _ (g .1 .1 .0), (refl, tt))))))
-    (λ q g. (q, (eqb-true _ 0 (g .0), (refl, (eqb-true _ 0 (g .1 .1 .0), (refl, tt))))))
-    (λ q g. (q, (eqb-true _ 0 (g .0), (eqb-true _ 0 (g .1 .0), (refl, (refl, tt))))))
+    (entered-stands bs at)
+    (λ k g. (k, (eqb-true _ 0 (g .0), (refl, (eqb-true _ 0 (g .1 .1 .0), (refl, tt))))))
+    (λ k g. (k, (eqb-true _ 0 (g .0), (eqb-true _ 0 (g .1 .0), (refl, (refl, tt))))))
     (zeros-stand bs at 4)
     (zeros-stand bs at 5)
     (zeros-stand bs at 6)
     (zeros-stand bs at 7)
 
-event-kept : (bs : List ℕ) (at : ℕ) → first-bad (fields-of-event bs at) bs at ≡ None → EventRecord (event-at bs at) bs at
+event-kept : (bs : List ℕ) (at : ℕ) → first-bad (fields-of-event bs at) bs at ≡ None
+    → EventRecord (event-at bs at) bs at
 event-kept bs at e =
     let g = good (fields-of-event bs at) bs at e in
-    let w = written (event-numbers (event-at bs at)) bs at
-    (refl, call-stands bs at (byte bs (at + 4)) (g .1 .0) refl (g .1 .1)) in
-    (event-sound bs at e, w)
+    let call = call-stands bs at (byte bs (at + 4)) (g .1 .0) refl (g .1 .1) in
+    (event-sound bs at e, written (event-numbers (event-at bs at)) bs at (refl, call))
 
 -- a call's fields are good, and they read as the call
-abbrev Reads-call : List ℕ → ℕ → Call → Type 0
-Reads-call bs at c =
-    (admits EventKind (byte bs (at + 4)) ≡ true) × Named (byte bs (at + 4)) bs at × (call-at (byte bs (at + 4)) bs at ≡ c)
+abbrev ReadsCall : List ℕ → ℕ → Call → Type 0
+ReadsCall bs at c =
+    let k = byte bs (at + 4) in
+    (admits EventKind k ≡ true) × Named k bs at × (call-at k bs at ≡ c)
 
-zeros-good : (bs : List ℕ) (at k : ℕ) → Stands (call-row k 0 0 0 0) bs at 4 → Good (call-fields Zero Zero Zero Zero) bs at 5
+zeros-good : (bs : List ℕ) (at k : ℕ) → Stands (call-row k 0 0 0 0) bs at 4
+    → Good (call-fields Zero Zero Zero Zero) bs at 5
 zeros-good bs at k w = (rw (w .1 .0), (rw (w .1 .1 .0), (rw (w .1 .1 .1 .0), (rw (w .1 .1 .1 .1 .0), tt))))
 
-call-read : (bs : List ℕ) (at : ℕ) (c : Call) → SoundCall c → Stands (call-numbers c) bs at 4 → Reads-call bs at c
+-- w holds the equations of the kind, the flags, the number and the two amounts, each in the rest of the one before
+call-read : (bs : List ℕ) (at : ℕ) (c : Call) → SoundCall c → Stands (call-numbers c) bs at 4 → ReadsCall bs at c
 call-read bs at (enter o) h w =
     let r = flags-read o (h .0) in
     rw (w .0, w .1 .0, w .1 .1 .0, w .1 .1 .1 .0, w .1 .1 .1 .1 .0)
@@ -140,7 +155,8 @@ event-read bs e at r =
     let time : admits TimeOfDay (four bs at) ≡ true = rw (w .0) (le-leb (e .time) last-time (r .0 .0)) in
     (none-bad (fields-of-event bs at) bs at (time, (c .0, c .1)), λ i. record { time = w .0 i; call = c .2 i })
 
-pub events-kept : (bs : List ℕ) → fits Events (length bs) ≡ true → bad-field Events bs ≡ None → EventsBody (events-in bs) bs
+pub events-kept : (bs : List ℕ) → fits Events (length bs) ≡ true → bad-field Events bs ≡ None
+    → EventsBody (events-in bs) bs
 events-kept bs f e =
     let n = length bs / event-size in
     let whole : 0 + event-size * n ≡ length bs = grind (arith, tells) in

@@ -2,9 +2,8 @@
 -- `first-bad` finds nothing in, and what `Written` says.
 use mathlib.Core.Bool.{Bool, true, false, cond}
 use mathlib.Core.List.{List, [], _∷_}
-use mathlib.Core.Path.{_≡_, refl, sym, _∙_, ap, subst}
+use mathlib.Core.Path.{_≡_, refl}
 use Prim.Native.Nat.{ℕ, zero, suc, _+_}
-use native.Mathlib.Nat.{add-assoc, add-zero}
 use native.Mathlib.Omega.{arith}
 use Rattle.std.specs.declared.option.Option.{Option}
 use Rattle.std.specs.declared.option.Option.the-variants.{Some, None}
@@ -60,6 +59,7 @@ stands-from [] bs at k w = tt
 stands-from (n ∷ ns) bs at k w =
     (w .0, stands-from ns bs at (k + size (n .0)) (rw (← place-more at k (size (n .0))) (w .1)))
 
+-- the same from the record's first byte on
 pub good : (fs : List Field) (bs : List ℕ) (at : ℕ) → first-bad fs bs at ≡ None → Good fs bs at 0
 good fs bs at e = good-from fs bs at 0 e
 

@@ -17,7 +17,7 @@ use Rattle.std.specs.declared.option.Option.the-variants.{Some, None}
 use Rattle.session.specs.Fields.{first-bad}
 use Rattle.session.specs.Faults.{first-in}
 use Rattle.session.specs.Records.{event-at, event-size, events-in, order-at, order-size, orders-in}
-use Rattle.session.proofs.Acceptance.{or-none}
+use Rattle.session.proofs.RecordLists.{or-none}
 use Rattle.session.proofs.RecordSteps.{Table}
 
 pub listed : {X : Type 0} (f : ℕ → X) (n k : ℕ) → k < n → nth (map f (counting 0 n)) k ≡ Some (f k)

@@ -5,6 +5,7 @@
 
 pub mod body;
 pub mod event;
+pub mod events;
 pub mod field;
 pub mod record;
 pub mod resting;
