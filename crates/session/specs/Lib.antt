@@ -6,3 +6,4 @@ pub mod Handed
 pub mod Faults
 pub mod Layout
 pub mod Filed
+pub mod Reading

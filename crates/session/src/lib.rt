@@ -7,5 +7,7 @@ pub mod body;
 pub mod event;
 pub mod events;
 pub mod field;
+pub mod file;
+pub mod heading;
 pub mod record;
 pub mod resting;
