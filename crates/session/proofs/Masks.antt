@@ -5,7 +5,7 @@ use mathlib.Core.Path.{_≡_, refl, ap}
 use Prim.Native.Nat.{ℕ, zero, suc, _+_, _*_, _≤_, _<_}
 use native.Mathlib.Omega.{arith}
 use lib.Count.{ones, onesIn}
-use lib.Dec.{leb, ltb, eqb}
+use lib.Dec.{ltb, eqb}
 use Rattle.std.proofs.shelf.Ways.{tells, decides-below-and}
 use Rattle.session.specs.declared.body.BodyKind.{BodyKind}
 use Rattle.session.specs.declared.body.BodyKind.the-variants.{Heading, Resting, Events, Note}
@@ -20,7 +20,8 @@ every test (suc n) = test n && every test n
 at-mask : (test : ℕ → Bool) → every test 16 ≡ true → (m : ℕ) → m ≤ 15 → test m ≡ true
 unfolding every
 at-mask test e m h =
-    decides-below-and test (λ k. test k ≡ true) (every test) (λ k. (λ t. t, λ t. t)) refl (λ _. refl) 16 .0 e m (omega arith)
+    let holds : ℕ → Type 0 = λ k. test k ≡ true in
+    decides-below-and test holds (every test) (λ k. (λ t. t, λ t. t)) refl (λ _. refl) 16 .0 e m (omega arith)
 
 -- ---- a body that is present comes after fewer bodies than there are
 
@@ -71,7 +72,8 @@ Marks = Bool × Bool × Bool × Bool × ℕ × ℕ × ℕ × ℕ × ℕ
 
 -- all that the contents take from a mask, as one value
 abbrev marks : ℕ → Marks
-marks m = (has m 1, has m 2, has m 4, has m 8, 1 + 2 * ones m, place m Heading, place m Resting, place m Events, place m Note)
+marks m =
+    (has m 1, has m 2, has m 4, has m 8, 1 + 2 * ones m, place m Heading, place m Resting, place m Events, place m Note)
 
 abbrev marks-of : (resting events note : Bool) → Marks
 marks-of r e n = (true, r, e, n, table-size r e n, 1, 3, 3 + cond r 2 0, 3 + cond r 2 0 + cond e 2 0)
@@ -87,8 +89,12 @@ marks-are false true false = refl
 marks-are false false true = refl
 marks-are false false false = refl
 
+mask-small : (r e n : Bool) → mask-of r e n ≤ 15
+mask-small r e n = grind arith
+
 -- the same, each by its name
 pub record Marked (m : ℕ) (r e n : Bool) : Type 0 where
+  pub small : m ≤ 15
   pub headed : has m 1 ≡ true
   pub rested : has m 2 ≡ r
   pub timed : has m 4 ≡ e
@@ -103,6 +109,7 @@ pub marked : (m : ℕ) (r e n : Bool) → m ≡ mask-of r e n → Marked m r e n
 marked m r e n q =
     let p : marks m ≡ marks-of r e n = rw q (marks-are r e n) in
     record {
+      small = rw q (mask-small r e n);
       headed = ap (λ t. t .0) p;
       rested = ap (λ t. t .1) p;
       timed = ap (λ t. t .2) p;

@@ -1,10 +1,10 @@
 -- What reading a file promises.
-use mathlib.Core.Bool.{cond}
+use mathlib.Core.Bool.{Bool, cond, _&&_}
 use mathlib.Core.List.{List, []}
 use mathlib.Core.Path.{_≡_}
 use Prim.Native.Nat.{ℕ}
 use denote.Ref.{now}
-use Rattle.std.specs.Results.{Cases}
+use Rattle.std.specs.Results.{Cases, isOk}
 use Rattle.std.specs.declared.option.Option.{Option}
 use Rattle.std.specs.declared.option.Option.the-variants.{Some, None}
 use Rattle.market.specs.declared.refusal.Refusal.{Refusal}
@@ -48,3 +48,7 @@ pub record Refuses (file : List ℕ) (f : SessionFile) (e : Refusal) : Type 0 wh
 pub record Reads (file : List ℕ) (f : SessionFile) : Type 0 where
   pub same : now (f .file) ≡ file
   pub verdict : Cases (f .verdict) (Accepts file f) (Refuses file f)
+
+-- an accepted file has a body of this kind
+abbrev pub holds : SessionFile → BodyKind → Bool
+holds f kind = isOk (f .verdict) && present (now (f .file)) kind

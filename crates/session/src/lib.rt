@@ -6,8 +6,8 @@
 pub mod body;
 pub mod event;
 pub mod events;
-pub mod field;
+mod field;
 pub mod file;
 pub mod heading;
-pub mod record;
+mod record;
 pub mod resting;

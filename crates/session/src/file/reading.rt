@@ -1,16 +1,20 @@
 //! Reading a file.
 
+ghost use mathlib.Core.Bool.{false, true};
 ghost use mathlib.Core.Path.{_≡_};
+ghost use Rattle.std.specs.Options.{Cases as BySome};
 ghost use Rattle.std.specs.Results.{Cases};
 ghost use Rattle.std.specs.declared.option.Option.the-variants.{Some, None};
 ghost use Rattle.market.specs.Causes.{cause};
 ghost use Rattle.session.specs.Faults.{fault};
-ghost use Rattle.session.specs.Handed.{bytes-of};
-ghost use Rattle.session.specs.Reading.{Reads};
+ghost use Rattle.session.specs.Contents.{body};
+ghost use Rattle.session.specs.Handed.{bytes-of, kind-of};
+ghost use Rattle.session.specs.Reading.{Reads, holds};
 use super::SessionFile;
 use crate::body::Body;
 use crate::body::BodyKind;
 use crate::body::contents::check_contents;
+use crate::body::contents::is_present;
 use crate::body::layers::body_of;
 use crate::body::layers::check_fields;
 use crate::body::layers::check_lengths;
@@ -44,14 +48,14 @@ fn refused<'a>(file: &'a [u8], refusal: Refusal) -> SessionFile<'a>
     }
 }
 
-impl<'a> Body<'a> {
-    fn bytes(self) -> &'a [u8]
-        ensures { λ r. ⌜ now r ≡ bytes-of (self .entry) ⌝ }
-    {
-        match self {
-            Body::Heading(bytes) | Body::Resting(bytes) | Body::Events(bytes) | Body::Note(bytes) =>
-                bytes,
-        }
+/// The bytes of a body of an accepted file.
+fn part<'a>(file: &'a [u8], kind: BodyKind) -> &'a [u8]
+    requires { ⌜ fault (now file) ≡ None ⌝ }
+    ensures { λ r. ⌜ now r ≡ body (now (file .entry)) kind ⌝ }
+{
+    match body_of(file, kind) {
+        Body::Heading(bytes) | Body::Resting(bytes) | Body::Events(bytes) | Body::Note(bytes) =>
+            bytes,
     }
 }
 
@@ -59,7 +63,10 @@ fn accepted<'a>(file: &'a [u8]) -> SessionFile<'a>
     requires { ⌜ fault (now file) ≡ None ⌝ }
     ensures { λ r. ⌜ Reads (now (file .entry)) r ⌝ }
 {
-    let heading = body_of(file, BodyKind::Heading).bytes();
+    let heading = part(file, BodyKind::Heading);
+    let resting = part(file, BodyKind::Resting);
+    let events = part(file, BodyKind::Events);
+    let note = part(file, BodyKind::Note);
     let last_sale = Price {
         cents: four_at(heading, 0),
     };
@@ -67,13 +74,9 @@ fn accepted<'a>(file: &'a [u8]) -> SessionFile<'a>
     SessionFile {
         file,
         verdict: Ok(Heading { last_sale, ranking }),
-        resting: FiledBook {
-            records: body_of(file, BodyKind::Resting).bytes(),
-        },
-        events: FiledEvents {
-            records: body_of(file, BodyKind::Events).bytes(),
-        },
-        note: body_of(file, BodyKind::Note).bytes(),
+        resting: FiledBook { records: resting },
+        events: FiledEvents { records: events },
+        note,
     }
 }
 
@@ -84,5 +87,17 @@ pub fn read<'a>(file: &'a [u8]) -> SessionFile<'a>
     match check(file) {
         Ok(()) => accepted(file),
         Err(refusal) => refused(file, refusal),
+    }
+}
+
+impl<'a> SessionFile<'a> {
+    /// A body as the part of the file that it is, told by its case; none where the file lacks it or was refused.
+    pub fn body(&self, kind: BodyKind) -> Option<Body<'a>>
+        ensures { λ r. ⌜ BySome r (holds (now (self .entry)) kind ≡ false) (λ b. (holds (now (self .entry)) kind ≡ true) × (kind-of b ≡ kind) × (bytes-of b ≡ body (now (now (self .entry) .file)) kind)) ⌝ }
+    {
+        if self.verdict.is_err() || !is_present(self.file, kind) {
+            return None;
+        }
+        Some(body_of(self.file, kind))
     }
 }
