@@ -3,9 +3,9 @@ use mathlib.Core.Bool.{true, false, cond}
 use mathlib.Core.List.{List, []}
 use mathlib.Core.Path.{_≡_, sym, _∙_, ap, subst}
 use native.Mathlib.Omega.{arith}
-use Prim.Native.Nat.{ℕ}
+use Prim.Native.Nat.{ℕ, _+_, _*_}
 use denote.Ref.{now}
-use lib.ListN.{length}
+use lib.ListN.{length, take, drop}
 use Rattle.std.proofs.shelf.Tests.{eqb-true}
 use Rattle.std.specs.Options.{isSome}
 use Rattle.std.specs.declared.option.Option.{Option}
@@ -18,8 +18,8 @@ use Rattle.session.specs.declared.body.BodyKind.the-variants.{Heading, Resting
 use Rattle.session.specs.declared.file.SessionFile.{SessionFile}
 use Rattle.session.specs.declared.heading.Heading as heading
 use Rattle.session.specs.declared.field.Values.the-variants.{Ranking}
-use Rattle.session.specs.Fields.{admits, byte, four}
-use Rattle.session.specs.Contents.{body, present}
+use Rattle.session.specs.Fields.{admits, byte, four, two}
+use Rattle.session.specs.Contents.{body, mask, present, rank, start}
 use Rattle.session.specs.Faults.{bad-field, fault, fits}
 use Rattle.session.specs.Layout.{KeepsLayout, Session, session-of}
 use Rattle.session.specs.Reading.{Accepts, Refuses, handed, if-present}
@@ -51,6 +51,10 @@ if-present-same : {X : Type 0} (said : List ℕ → X) (kind : BodyKind) (file f
     → if-present f kind (said bs) ≡ cond (present file kind) (Some (said (body file kind))) None
 if-present-same said kind file f bs p q = ap (λ xs. if-present xs kind (said bs)) p ∙ ap (λ xs. if-present file kind (said xs)) q
 
+-- the mask lacks the body: its length is 0
+absent-body : (file : List ℕ) (kind : BodyKind) → present file kind ≡ false → body file kind ≡ []
+absent-body file kind e = ap (λ b. take (cond b (two file (1 + 2 * rank (mask file) kind)) 0) (drop (start file kind) file)) e
+
 pub accepts : (file : List ℕ) (f : SessionFile) (h : heading.Heading) → fault file ≡ None → now (f .file) ≡ file
     → h .«last_sale» .cents ≡ four (body file Heading) 0 → h .ranking ≡ byte (body file Heading) 4
     → now (f .resting .records) ≡ body file Resting → now (f .events .records) ≡ body file Events → now (f .note) ≡ body file Note
@@ -61,8 +65,12 @@ accepts file f h e p l k r v n =
     (if-present-same events-in Events file (now (f .file)) (now (f .events .records)) p v)
     (if-present-same (λ bs. bs) Note file (now (f .file)) (now (f .note)) p n) in
     record {
+      no-cause = e;
       keeps = subst (KeepsLayout file) (sym same) (layout-kept file e);
       only = λ s layout. sym (layout-read file s layout .1) ∙ sym same;
+      no-orders = λ absent. r ∙ absent-body file Resting absent;
+      no-events = λ absent. v ∙ absent-body file Events absent;
+      no-note = λ absent. n ∙ absent-body file Note absent;
     }
 
 pub refuses : (file : List ℕ) (f : SessionFile) (e : Refusal) → fault file ≡ Some (cause e)

@@ -1,5 +1,5 @@
 -- What reading a file promises.
-use mathlib.Core.Bool.{Bool, cond, _&&_}
+use mathlib.Core.Bool.{Bool, false, cond, _&&_}
 use mathlib.Core.List.{List, []}
 use mathlib.Core.Path.{_≡_}
 use Prim.Native.Nat.{ℕ}
@@ -32,10 +32,14 @@ handed f h = record {
   note = if-present (now (f .file)) Note (now (f .note));
 }
 
--- the file keeps the layout of the session that is handed out, and of no other
+-- the file keeps the layout of the session that is handed out, and of no other; an absent body counts as empty
 pub record Accepts (file : List ℕ) (f : SessionFile) (h : Heading) : Type 0 where
+  pub no-cause : fault file ≡ None
   pub keeps : KeepsLayout file (handed f h)
   pub only : (s : Session) → KeepsLayout file s → s ≡ handed f h
+  pub no-orders : present file Resting ≡ false → now (f .resting .records) ≡ []
+  pub no-events : present file Events ≡ false → now (f .events .records) ≡ []
+  pub no-note : present file Note ≡ false → now (f .note) ≡ []
 
 -- the file keeps the layout of no session; the cause is the defined one, and nothing is handed out
 pub record Refuses (file : List ℕ) (f : SessionFile) (e : Refusal) : Type 0 where

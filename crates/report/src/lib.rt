@@ -1,0 +1,60 @@
+//! The report of a session file, as text.
+
+ghost use mathlib.Core.List.{_++_};
+ghost use mathlib.Core.Path.{_≡_};
+ghost use Rattle.std.specs.Of.String.{string-bytes};
+ghost use Rattle.std.specs.Vec.{made};
+ghost use Rattle.market.specs.Causes.{cause};
+ghost use Rattle.session.specs.Reading.{Accepts, handed};
+ghost use Rattle.report.specs.Text.{Reports, first-line, read-line, refused-line};
+use book::Book;
+use market::refusal::Refusal;
+use session::file::SessionFile;
+use session::file::read;
+use session::heading::Heading;
+use session::resting::RestingBook;
+use std::alloc::AllocError;
+use std::alloc::Global;
+
+fn refused_text(heap: Global, refusal: Refusal) -> Result<String, AllocError>
+    ensures { λ r. ⌜ made r (λ t. string-bytes t ≡ first-line ++ refused-line (cause refusal)) ⌝ }
+{
+    let number = refusal.number();
+    let layer = refusal.layer();
+    let byte = refusal.byte();
+    format!(
+        heap,
+        "event,answer,price,shares\nrefused,{number},{layer},{byte}\n"
+    )
+}
+
+fn accepted_text(
+    heap: Global,
+    session: &SessionFile<'_>,
+    heading: Heading,
+) -> Result<String, AllocError>
+    requires { ⌜ Accepts (now (now session .file)) (now session) heading ⌝ }
+    ensures { λ r. ⌜ made r (λ t. string-bytes t ≡ first-line ++ read-line (handed (now (session .entry)) heading)) ⌝ }
+{
+    let resting = session.resting.count();
+    let events = session.events.count();
+    let note = session.note.len();
+    let last_sale = heading.last_sale.cents;
+    let ranking = heading.ranking;
+    format!(
+        heap,
+        "event,answer,price,shares\nread,{resting},{events},{note},{last_sale},{ranking}\n"
+    )
+}
+
+/// The report of a session file: what is in it, or the one cause for which it is refused. It fails only for want
+/// of memory.
+pub fn report(heap: Global, file: &[u8]) -> Result<String, AllocError>
+    ensures { λ r. ⌜ made r (λ t. Reports (now (file .entry)) (string-bytes t)) ⌝ }
+{
+    let session = read(file);
+    match session.verdict {
+        Ok(heading) => accepted_text(heap, &session, heading),
+        Err(refusal) => refused_text(heap, refusal),
+    }
+}
