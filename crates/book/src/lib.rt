@@ -2,10 +2,9 @@
 
 ghost use mathlib.Core.Path.{_≡_};
 ghost use mathlib.Core.List.{List};
-ghost use Prim.Native.Nat.{_≤_};
-ghost use lib.ListN.{length};
-ghost use Rattle.std.specs.Finite.{nth};
-ghost use Rattle.std.specs.Options.{mapped};
+ghost use Prim.Native.Nat.{_<_, _≤_};
+ghost use lib.ListN.{getD, length};
+ghost use Rattle.std.specs.Options.{Cases as BySome};
 ghost use Rattle.market.specs.declared.order.OrderTerms.{OrderTerms};
 use market::order::Order;
 use market::order::OrderTerms;
@@ -24,5 +23,5 @@ pub trait Book {
 
     /// The order at a place, counted from 0; none at or past the count.
     fn order(&self, place: usize) -> Option<Order>
-        ensures { λ r. ⌜ mapped (λ o. o .terms) r ≡ nth (orders (now (self .entry))) place ⌝ };
+        ensures { λ r. ⌜ BySome r (length (orders (now (self .entry))) ≤ place) (λ o. (place < length (orders (now (self .entry)))) × (o .terms ≡ getD (orders (now (self .entry))) place (o .terms))) ⌝ };
 }

@@ -5,7 +5,7 @@ ghost use mathlib.Core.Path.{_≡_};
 ghost use Rattle.std.specs.Of.String.{string-bytes};
 ghost use Rattle.std.specs.Vec.{made};
 ghost use Rattle.market.specs.Causes.{cause};
-ghost use Rattle.session.specs.Reading.{Accepts, handed};
+ghost use Rattle.session.specs.Reading.{Accepts, Reads, handed};
 ghost use Rattle.report.specs.Text.{Reports, first-line, read-line, refused-line};
 use book::Book;
 use market::refusal::Refusal;
@@ -47,14 +47,21 @@ fn accepted_text(
     )
 }
 
+fn text_of(heap: Global, session: &SessionFile<'_>) -> Result<String, AllocError>
+    requires { ⌜ Reads (now (now session .file)) (now session) ⌝ }
+    ensures { λ r. ⌜ made r (λ t. Reports (now (now (session .entry) .file)) (string-bytes t)) ⌝ }
+{
+    match session.verdict {
+        Ok(heading) => accepted_text(heap, session, heading),
+        Err(refusal) => refused_text(heap, refusal),
+    }
+}
+
 /// The report of a session file: what is in it, or the one cause for which it is refused. It fails only for want
 /// of memory.
 pub fn report(heap: Global, file: &[u8]) -> Result<String, AllocError>
     ensures { λ r. ⌜ made r (λ t. Reports (now (file .entry)) (string-bytes t)) ⌝ }
 {
     let session = read(file);
-    match session.verdict {
-        Ok(heading) => accepted_text(heap, &session, heading),
-        Err(refusal) => refused_text(heap, refusal),
-    }
+    text_of(heap, &session)
 }

@@ -1,16 +1,12 @@
--- A body's records by place: the list that they are read as, and that none of them has a bad field.
+-- A body's records by place: how many there are, and that none of them has a bad field.
 use mathlib.Core.Bool.{false}
-use mathlib.Core.List.{List, map}
+use mathlib.Core.List.{List}
 use mathlib.Core.Path.{_≡_, refl, sym, _∙_}
 use native.Mathlib.Nat.{mul-add, mul-one, mul-zero}
 use native.Mathlib.Omega.{arith}
 use Prim.Native.Nat.{ℕ, zero, suc, _+_, _*_, _/_, _<_, _≤_}
 use lib.ListN.{length}
-use Rattle.std.proofs.shelf.Counted.{length-map-counting, getD-map-counting}
-use Rattle.std.proofs.shelf.Maps.{nth-getD, nth-past}
-use Rattle.std.proofs.shelf.Tests.{cases-eq}
-use Rattle.std.specs.Finite.{nth}
-use Rattle.std.specs.Iters.{counting}
+use Rattle.std.proofs.shelf.Counted.{length-map-counting}
 use Rattle.std.specs.Options.{isSome}
 use Rattle.std.specs.declared.option.Option.{Option}
 use Rattle.std.specs.declared.option.Option.the-variants.{Some, None}
@@ -19,14 +15,6 @@ use Rattle.session.specs.Faults.{first-in}
 use Rattle.session.specs.Records.{event-at, event-size, events-in, order-at, order-size, orders-in}
 use Rattle.session.proofs.RecordLists.{or-none}
 use Rattle.session.proofs.RecordSteps.{Table}
-
-pub listed : {X : Type 0} (f : ℕ → X) (n k : ℕ) → k < n → nth (map f (counting 0 n)) k ≡ Some (f k)
-listed f n k h =
-    let within : k < length (map f (counting 0 n)) = omega (arith, length-map-counting f 0 n) in
-    nth-getD (map f (counting 0 n)) k (f k) within ∙ simp (getD-map-counting f 0 n k k (f k) h (omega arith))
-
-pub unlisted : {X : Type 0} (f : ℕ → X) (n k : ℕ) → n ≤ k → nth (map f (counting 0 n)) k ≡ None
-unlisted f n k h = nth-past (map f (counting 0 n)) k (omega (arith, length-map-counting f 0 n))
 
 pub no-fault : {X : Type 0} (o : Option X) → isSome o ≡ false → o ≡ None
 no-fault None e = refl

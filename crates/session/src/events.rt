@@ -7,6 +7,7 @@ ghost use lib.ListN.{length};
 ghost use Rattle.std.specs.Options.{isSome};
 ghost use Rattle.session.specs.declared.body.BodyKind.the-variants.{Events};
 ghost use Rattle.session.specs.Faults.{bad-field, fits};
+ghost use Rattle.session.specs.Records.{events-in};
 
 mod listing;
 
@@ -14,6 +15,8 @@ mod listing;
 #[derive(Clone, Copy)]
 pub struct FiledEvents<'a> {
     pub records: &'a [u8],
+    pub count: usize,
     ghost fitting: { fits Events (length (now records)) ≡ true },
     ghost clean: { isSome (bad-field Events (now records)) ≡ false },
+    ghost counted: { count ≡ length (events-in (now records)) },
 }

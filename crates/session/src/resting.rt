@@ -7,6 +7,7 @@ ghost use lib.ListN.{length};
 ghost use Rattle.std.specs.Options.{isSome};
 ghost use Rattle.session.specs.declared.body.BodyKind.the-variants.{Resting};
 ghost use Rattle.session.specs.Faults.{bad-field, fits};
+ghost use Rattle.session.specs.Records.{orders-in};
 
 mod listing;
 
@@ -16,6 +17,8 @@ pub use listing::RestingBook;
 #[derive(Clone, Copy)]
 pub struct FiledBook<'a> {
     pub records: &'a [u8],
+    pub count: usize,
     ghost fitting: { fits Resting (length (now records)) ≡ true },
     ghost clean: { isSome (bad-field Resting (now records)) ≡ false },
+    ghost counted: { count ≡ length (orders-in (now records)) },
 }

@@ -2,10 +2,9 @@
 
 ghost use mathlib.Core.Bool.{true};
 ghost use mathlib.Core.Path.{_≡_};
-ghost use Prim.Native.Nat.{_+_, _≤_};
-ghost use lib.ListN.{length};
-ghost use Rattle.std.specs.Finite.{nth};
-ghost use Rattle.std.specs.Options.{mapped};
+ghost use Prim.Native.Nat.{_+_, _<_, _≤_};
+ghost use lib.ListN.{getD, length};
+ghost use Rattle.std.specs.Options.{Cases as BySome};
 ghost use Rattle.std.specs.declared.option.Option.the-variants.{None};
 ghost use Rattle.session.specs.declared.field.Values.the-variants.{CentsOrNone};
 ghost use Rattle.session.specs.Events.{call-of, cents-of, timed};
@@ -90,20 +89,27 @@ fn event_at(bytes: &[u8], at: usize) -> TimedEvent
 }
 
 impl<'a> FiledEvents<'a> {
+    fn filed(&self, place: usize) -> TimedEvent
+        requires { ⌜ place < now self .count ⌝ }
+        ensures { λ r. ⌜ timed r ≡ getD (events-in (now (now (self .entry) .records))) place (timed r) ⌝ }
+    {
+        event_at(self.records, EVENT_SIZE * place)
+    }
+
     /// How many events there are.
     pub fn count(&self) -> usize
         ensures { λ r. ⌜ r ≡ length (events-in (now (now (self .entry) .records))) ⌝ }
     {
-        self.records.len() / EVENT_SIZE
+        self.count
     }
 
     /// The event at a place, counted from 0; none at or past the count.
     pub fn event(&self, place: usize) -> Option<TimedEvent>
-        ensures { λ r. ⌜ mapped timed r ≡ nth (events-in (now (now (self .entry) .records))) place ⌝ }
+        ensures { λ r. ⌜ BySome r (length (events-in (now (now (self .entry) .records))) ≤ place) (λ e. (place < length (events-in (now (now (self .entry) .records)))) × (timed e ≡ getD (events-in (now (now (self .entry) .records))) place (timed e))) ⌝ }
     {
-        if place >= self.count() {
+        if place >= self.count {
             return None;
         }
-        Some(event_at(self.records, EVENT_SIZE * place))
+        Some(self.filed(place))
     }
 }

@@ -21,6 +21,8 @@ use crate::body::layers::check_lengths;
 use crate::events::FiledEvents;
 use crate::field::four_at;
 use crate::heading::Heading;
+use crate::record::EVENT_SIZE;
+use crate::record::ORDER_SIZE;
 use crate::resting::FiledBook;
 use market::price::Price;
 use market::refusal::Refusal;
@@ -42,8 +44,14 @@ fn refused<'a>(file: &'a [u8], refusal: Refusal) -> SessionFile<'a>
     SessionFile {
         file,
         verdict: Err(refusal),
-        resting: FiledBook { records: none },
-        events: FiledEvents { records: none },
+        resting: FiledBook {
+            records: none,
+            count: 0,
+        },
+        events: FiledEvents {
+            records: none,
+            count: 0,
+        },
         note: none,
     }
 }
@@ -74,8 +82,14 @@ fn accepted<'a>(file: &'a [u8]) -> SessionFile<'a>
     SessionFile {
         file,
         verdict: Ok(Heading { last_sale, ranking }),
-        resting: FiledBook { records: resting },
-        events: FiledEvents { records: events },
+        resting: FiledBook {
+            records: resting,
+            count: resting.len() / ORDER_SIZE,
+        },
+        events: FiledEvents {
+            records: events,
+            count: events.len() / EVENT_SIZE,
+        },
         note,
     }
 }

@@ -2,9 +2,9 @@
 
 ghost use mathlib.Core.Bool.{true};
 ghost use mathlib.Core.Path.{_≡_};
-ghost use Prim.Native.Nat.{_+_, _≤_};
+ghost use Prim.Native.Nat.{_+_, _<_, _≤_};
 ghost use denote.Ref.{now};
-ghost use lib.ListN.{length};
+ghost use lib.ListN.{getD, length};
 ghost use Rattle.std.specs.declared.option.Option.the-variants.{None};
 ghost use Rattle.session.specs.Fields.{first-bad};
 ghost use Rattle.session.specs.Filed.{filed-short};
@@ -40,19 +40,28 @@ fn order_at(bytes: &[u8], at: usize) -> Order
     Order { terms }
 }
 
+impl<'a> FiledBook<'a> {
+    fn filed(&self, place: usize) -> Order
+        requires { ⌜ place < now self .count ⌝ }
+        ensures { λ r. ⌜ r .terms ≡ getD (orders-in (now (now (self .entry) .records))) place (r .terms) ⌝ }
+    {
+        order_at(self.records, ORDER_SIZE * place)
+    }
+}
+
 pub impl<'a> Book for FiledBook<'a> as RestingBook {
     ghost orders = { λ b. orders-in (now (b .records)) };
 
     ghost short = { filed-short };
 
     fn count(&self) -> usize {
-        self.records.len() / ORDER_SIZE
+        self.count
     }
 
     fn order(&self, place: usize) -> Option<Order> {
-        if place >= self.count() {
+        if place >= self.count {
             return None;
         }
-        Some(order_at(self.records, ORDER_SIZE * place))
+        Some(self.filed(place))
     }
 }

@@ -1,8 +1,9 @@
 -- The bodies of an accepted file are handed out as what they were found to be.
-use mathlib.Core.Path.{refl, _∙_, ap}
+use mathlib.Core.Path.{refl, sym, _∙_, ap}
 use native.Mathlib.Omega.{arith}
 use Rattle.session.specs.declared.body.BodyKind.the-variants.{Resting, Events}
 use Rattle.session.specs.Fields.{byte, four}
+use Rattle.session.proofs.FiledRecords.{length-events, length-orders}
 use Rattle.session.proofs.Readings.{accepts, body-clean, body-fits, heading-lawful, none-some}
 use Rattle.session.proofs.file.reading.accepted.Needs as need
 
@@ -18,13 +19,13 @@ pub ghost-result-2 : need.ghost-result-2
 ghost-result-2 c =
     let file = c .args .file .now in
     let bs = c .part-resting .result .now in
-    (body-fits file Resting bs (c .pre) (c .part-resting .ensures), (none-some _ (body-clean file Resting bs (c .pre) (c .part-resting .ensures)), tt))
+    (body-fits file Resting bs (c .pre) (c .part-resting .ensures), (none-some _ (body-clean file Resting bs (c .pre) (c .part-resting .ensures)), (sym (length-orders bs), tt)))
 
 pub ghost-result-3 : need.ghost-result-3
 ghost-result-3 c =
     let file = c .args .file .now in
     let bs = c .part-events .result .now in
-    (body-fits file Events bs (c .pre) (c .part-events .ensures), (none-some _ (body-clean file Events bs (c .pre) (c .part-events .ensures)), tt))
+    (body-fits file Events bs (c .pre) (c .part-events .ensures), (none-some _ (body-clean file Events bs (c .pre) (c .part-events .ensures)), (sym (length-events bs), tt)))
 
 pub returns : need.returns
 returns c =

@@ -10,15 +10,16 @@ use Rattle.session.specs.Faults.{fault}
 use Rattle.session.specs.Layout.{Session}
 use Rattle.session.specs.Reading.{Accepts, Refuses}
 use Rattle.report.specs.Text.{first-line, read-line, refused-line}
-use Rattle.report.proofs.report.Needs as need
+use Rattle.report.proofs.text_of.Needs as need
 
 same-cause : (file : List ℕ) (a b : Cause) → fault file ≡ Some a → fault file ≡ Some b → a ≡ b
 same-cause file a b p q = cc
 
 pub returns-in-Ok : need.returns-in-Ok
 returns-in-Ok c =
-    let file = c .args .file .now in
-    let a = cases-at-ok (Accepts file (c .read-session .result)) (Refuses file (c .read-session .result)) (c .in-Ok .heading) (c .in-Ok .is) (c .read-session .ensures .verdict) in
+    let f = c .args .session .now in
+    let file = f .file .now in
+    let a = cases-at-ok (Accepts file f) (Refuses file f) (c .in-Ok .heading) (c .in-Ok .is) (c .pre .verdict) in
     made-weaker (c .accepted-text .result) _ _
     (λ t p. record {
       accepted = λ s layout. p ∙ ap (λ (x : Session). first-line ++ read-line x) (sym (a .only s layout));
@@ -28,8 +29,9 @@ returns-in-Ok c =
 
 pub returns-in-Err : need.returns-in-Err
 returns-in-Err c =
-    let file = c .args .file .now in
-    let r = cases-at-err (Accepts file (c .read-session .result)) (Refuses file (c .read-session .result)) (c .in-Err .refusal) (c .in-Err .is) (c .read-session .ensures .verdict) in
+    let f = c .args .session .now in
+    let file = f .file .now in
+    let r = cases-at-err (Accepts file f) (Refuses file f) (c .in-Err .refusal) (c .in-Err .is) (c .pre .verdict) in
     made-weaker (c .refused-text .result) _ _
     (λ t p. record {
       accepted = λ s layout. absurd (r .breaks s layout);
