@@ -1,3 +1,4 @@
 pub mod Causes
 pub mod Prices
 pub mod Orders
+pub mod Ranges

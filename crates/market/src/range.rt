@@ -3,6 +3,7 @@
 ghost use Prim.Native.Nat.{_≤_};
 use crate::price::Price;
 
+mod collar;
 mod making;
 
 /// The prices from a lowest to a highest, both included.

@@ -2,11 +2,9 @@
 use mathlib.Core.Bool.{Bool, true}
 use mathlib.Core.Path.{_≡_}
 use Prim.Native.Nat.{ℕ, _≤_}
-use Rattle.std.specs.declared.option.Option.{Option}
-use Rattle.std.specs.declared.option.Option.the-variants.{Some, None}
 use Rattle.market.specs.declared.order.OrderTerms.{OrderTerms}
-use Rattle.market.specs.declared.price.Price.{Price}
 use Rattle.market.specs.Orders.{Sound, lawful-shares}
+use Rattle.market.specs.Ranges.{cents-of}
 use Rattle.session.specs.declared.event.Event.{Event}
 use Rattle.session.specs.declared.event.Event.the-variants.{Enter, Cancel, Quote, Publish, Lock, Shut, Cross}
 use Rattle.session.specs.declared.event.TimedEvent.{TimedEvent}
@@ -41,10 +39,6 @@ abbrev pub SoundEvent : Timed → Type 0
 SoundEvent e = (e .time ≤ last-time) × SoundCall (e .call)
 
 -- what the program's own events say
-abbrev pub cents-of : Option Price → ℕ
-cents-of None = 0
-cents-of (Some p) = p .cents
-
 abbrev pub call-of : Event → Call
 call-of (Enter o) = enter (o .terms)
 call-of (Cancel e n) = cancel e n

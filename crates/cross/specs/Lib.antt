@@ -1,0 +1,3 @@
+pub mod Depth
+pub mod Clearing
+pub mod Cases

@@ -1,0 +1,3 @@
+//! The cross of a book: the clearing price in a range.
+
+pub mod worked;
