@@ -2,12 +2,19 @@
 
 ghost use mathlib.Core.Path.{_≡_};
 ghost use mathlib.Core.List.{List};
-ghost use Prim.Native.Nat.{_<_, _≤_};
-ghost use lib.ListN.{getD, length};
-ghost use Rattle.std.specs.Options.{Cases as BySome};
+ghost use Prim.Native.Nat.{_≤_};
+ghost use lib.ListN.{length};
 ghost use Rattle.market.specs.declared.order.OrderTerms.{OrderTerms};
+ghost use Rattle.book.specs.Answers.{AnswersAt};
 use market::order::Order;
 use market::order::OrderTerms;
+
+/// The most orders that a book has.
+pub const MOST_ORDERS: usize = 4_096;
+
+pub mod joined;
+pub mod lent;
+pub mod ranged;
 
 /// A list of at most 4,096 orders. It answers by that list, and asking changes nothing.
 pub trait Book {
@@ -23,5 +30,5 @@ pub trait Book {
 
     /// The order at a place, counted from 0; none at or past the count.
     fn order(&self, place: usize) -> Option<Order>
-        ensures { λ r. ⌜ BySome r (length (orders (now (self .entry))) ≤ place) (λ o. (place < length (orders (now (self .entry)))) × (o .terms ≡ getD (orders (now (self .entry))) place (o .terms))) ⌝ };
+        ensures { λ r. ⌜ AnswersAt (orders (now (self .entry))) place r ⌝ };
 }

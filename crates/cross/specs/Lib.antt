@@ -1,3 +1,6 @@
 pub mod Depth
+pub mod Limits
+pub mod Passes
+pub mod Serving
 pub mod Clearing
 pub mod Cases

@@ -1,3 +1,5 @@
-//! The cross of a book: the clearing price in a range.
+//! The cross of a book: the clearing price in a range, and the shares at a price.
 
+pub mod clearing;
+pub mod depth;
 pub mod worked;
