@@ -1,1 +1,7 @@
 pub mod PassSteps
+pub mod DepthSums
+pub mod PriceLists
+pub mod ThreeSteps
+pub mod ClearingPrice
+pub mod Bisection
+pub mod Searching

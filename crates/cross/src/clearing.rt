@@ -48,3 +48,36 @@ fn first_served<B: Book + Drop>(ranged: &Ranged<B>, side: Side, from: u32, to: u
     }
     found
 }
+
+/// From the price nearest to the tie-breaker: if its better-priced buys are unserved the price rises, if its
+/// better-priced sells are, it falls.
+fn search<B: Book + Drop>(ranged: &Ranged<B>, twice: u32) -> u32
+    ensures value { λ r. ⌜ r ≡ clearing-price (now (ranged .entry) .range .lowest .cents) (now (ranged .entry) .range .highest .cents) twice (B·Book .orders (now (ranged .entry) .book)) ⌝ }
+    ensures low { λ r. ⌜ now (ranged .entry) .range .lowest .cents ≤ r ⌝ }
+    ensures high { λ r. ⌜ r ≤ now (ranged .entry) .range .highest .cents ⌝ }
+{
+    let lowest = ranged.range.lowest.cents;
+    let highest = ranged.range.highest.cents;
+    let middle = (twice / 2).min(highest).max(lowest);
+    let depth = ranged_depth(ranged, middle);
+    if !depth.serves(Side::Buy) {
+        return first_served(ranged, Side::Buy, middle, highest);
+    }
+    if !depth.serves(Side::Sell) {
+        return first_served(ranged, Side::Sell, middle, lowest);
+    }
+    middle
+}
+
+/// The clearing price of a book in a range; `twice` is twice the tie-breaker. At most 26 passes over the book.
+pub fn clearing_price<B: Book>(book: &B, range: PriceRange, twice: u32) -> Price
+    ensures { λ r. ⌜ r .cents ≡ clearing-price (range .lowest .cents) (range .highest .cents) twice (B·Book .orders (now (book .entry))) ⌝ }
+{
+    let ranged = Ranged {
+        book: Lent { book },
+        range,
+    };
+    Price {
+        cents: search(&ranged, twice),
+    }
+}
