@@ -3,4 +3,7 @@ pub mod Limits
 pub mod Passes
 pub mod Serving
 pub mod Clearing
+pub mod Rankings
+pub mod Fills
+pub mod Crosses
 pub mod Cases
