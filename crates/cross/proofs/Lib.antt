@@ -5,3 +5,4 @@ pub mod ThreeSteps
 pub mod ClearingPrice
 pub mod Bisection
 pub mod Searching
+pub mod RankingLaws

@@ -34,7 +34,7 @@ pub record Laws (good : OrderTerms → OrderTerms → Bool) : Type 0 where
   pub price-first : (a b : OrderTerms) → same-side (a .side) (b .side) ≡ true → better-price (a .side) (a .price) (b .price) ≡ true → good b a ≡ false
 
 -- by price, and of the same price by a second rule
-abbrev by-price-then : (OrderTerms → OrderTerms → Bool) → OrderTerms → OrderTerms → Bool
+abbrev pub by-price-then : (OrderTerms → OrderTerms → Bool) → OrderTerms → OrderTerms → Bool
 by-price-then then a b =
     same-side (a .side) (b .side)
     && (better-price (a .side) (a .price) (b .price) || (not (better-price (a .side) (b .price) (a .price)) && then a b))

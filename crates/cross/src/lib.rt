@@ -2,4 +2,6 @@
 
 pub mod clearing;
 pub mod depth;
+pub mod fills;
+pub mod ranking;
 pub mod worked;
