@@ -6,3 +6,4 @@ pub mod ClearingPrice
 pub mod Bisection
 pub mod Searching
 pub mod RankingLaws
+pub mod PlaceSums

@@ -24,7 +24,7 @@ use Rattle.cross.specs.Passes.{depth-at, depth-by-limits}
 abbrev pub Small : (n : ℕ) → Depth → Type 0
 Small n d = (d .bought ≤ 1000000 * n) × (d .sold ≤ 1000000 * n) × (d .«bought_above» ≤ 1000000 * n) × (d .«sold_below» ≤ 1000000 * n)
 
-at-most-shares : (b : Bool) (o : OrderTerms) → cond b (o .shares) 0 ≤ o .shares
+pub at-most-shares : (b : Bool) (o : OrderTerms) → cond b (o .shares) 0 ≤ o .shares
 at-most-shares true o = omega arith
 at-most-shares false o = omega arith
 
@@ -43,7 +43,7 @@ pub record Adds (p : ℕ) (o : OrderTerms) (d e : Depth) : Type 0 where
   pub above : e .«bought_above» ≡ d .«bought_above» + buy-shares-above p o
   pub below : e .«sold_below» ≡ d .«sold_below» + sell-shares-below p o
 
-shares-small : (o : OrderTerms) → Sound o → o .shares ≤ 1000000
+pub shares-small : (o : OrderTerms) → Sound o → o .shares ≤ 1000000
 shares-small o s = let few = s .1 in grind (arith, tells)
 
 pub pass-more : (p : ℕ) (os : List OrderTerms) (k : ℕ) (o : OrderTerms) (d e : Depth) → k < length os → o ≡ getD os k o → Sound o
