@@ -1,25 +1,43 @@
 #!/usr/bin/env python3
-"""Writes the table of session files that the acceptance program judges, and what it has to print.
+"""Writes the table of cases that the acceptance program judges, and what it has to print.
 
     python3 crates/acceptance/table.py
 
-writes `stdin`, the cases, and `stdout`, the answers, beside this file. The answers come from the reader below, which
-follows the description of the format and shares nothing with the crates: where the program prints something else, one
-of the two is wrong, and the description says which.
+writes `stdin`, the cases, and `stdout`, the answers, beside this file. The answers come from the reader, the pricing
+and the ranges below, which follow the description of the format and the rules and share nothing with the crates: where
+the program prints something else, one of the two is wrong, and the description says which.
 
-A line of the table is `NAME BYTES`, with one space between. NAME has letters, digits and '-'. BYTES are runs, with
-';' between them: a run is pairs of hex digits in lower case, one pair to a byte, and stands as often as the number
-after a '*' says, once if there is none. So `0102;00*3;0a0b*2` is the file of the bytes 1, 2, 0, 0, 0, 10, 11, 10, 11.
-An empty file has nothing after the space.
+A line of the table is a name, a space and what is asked. NAME has letters, digits and '-', the others have no space in
+them, and one space stands between each two:
 
-An answer is `NAME refused,NUMBER,LAYER,BYTE`, or `NAME read,LASTSALE,RANKING,ORDERS,EVENTS,NOTEBYTES` and then a line
-for each order and for each event, of more than sixteen only the first eight and the last eight:
+    NAME BYTES                                        reads a session file
+    NAME price LOW HIGH TWICE BYTES                   prices the resting orders of a file in a range
+    NAME joined price LOW HIGH TWICE BYTES BYTES2     likewise those of two files, one after the other
+    NAME collar BID OFFER LASTSALE                    makes the ranges of a quote and a last sale
+
+BYTES are runs, with ';' between them: a run is pairs of hex digits in lower case, one pair to a byte, and stands as
+often as the number after a '*' says, once if there is none. So `0102;00*3;0a0b*2` is the file of the bytes
+1, 2, 0, 0, 0, 10, 11, 10, 11. An empty file has no letters at all. A file that is to be read is alone after the name,
+with no space in it or after it, so no line has two meanings.
+
+LOW and HIGH are the ends of the range and TWICE is twice the tie-breaker; BID, OFFER and LASTSALE are prices, and a BID
+or an OFFER of 0 is none. All are decimal numbers below 2^32, and prices are in cents.
+
+An answer is `NAME refused,NUMBER,LAYER,BYTE` for a file that is refused, of two files for the first such one. For an
+accepted one that is read it is `NAME read,LASTSALE,RANKING,ORDERS,EVENTS,NOTEBYTES` and then a line for each order and
+for each event, of more than sixteen only the first eight and the last eight:
 
     order,PLACE,SIDE,LIMIT,SHARES,ENTRY,DISPLAYED,STAYS
     event,PLACE,TIME,enter,SIDE,LIMIT,SHARES,ENTRY,DISPLAYED,STAYS
     event,PLACE,TIME,cancel,ENTRY,SHARES
     event,PLACE,TIME,quote,BID,OFFER
     event,PLACE,TIME,publish     and likewise lock, shut and cross
+
+The answer to a book that is priced is `NAME clears,PRICE,EXECUTED,IMBALANCE`: the clearing price, the shares that
+execute there, and the shares willing to buy there less those willing to sell. To a quote it is
+`NAME collar,REFLOW,REFHIGH,TWICE,LOW,HIGH`: the ends of the reference range, their sum, and the ends of the collar.
+Where LOW, HIGH or a price of the quote is no price, or LOW is above HIGH, it is `NAME refused,5,0,0`, unless a file is
+refused. To a line of any other form it is `NAME unreadable`.
 """
 
 import os
@@ -228,6 +246,143 @@ def answer(name, data):
     lines += [f"order,{place},{shown_order(order)}" for place, order in shown(orders)]
     lines += [f"event,{place},{shown_event(event)}" for place, event in shown(events)]
     return lines
+
+
+# ---------------------------------------------------------------------------------------------------------------------
+# The reference pricing
+
+LOWEST_PRICE, HIGHEST_PRICE = 1, 20_000_000
+
+
+class Pricing:
+    """The orders of a book, each by its counted price in a range."""
+
+    def __init__(self, orders, low, high):
+        self.low, self.high = low, high
+        self.buys = [(min(order["limit"], high), order["shares"]) for order in orders if order["side"] == 0]
+        self.sells = [(max(order["limit"], low), order["shares"]) for order in orders if order["side"] == 1]
+
+    def bought(self, price):
+        return sum(shares for counted, shares in self.buys if counted >= price)
+
+    def sold(self, price):
+        return sum(shares for counted, shares in self.sells if counted <= price)
+
+    def executed(self, price):
+        return min(self.bought(price), self.sold(price))
+
+    def better_priced(self, price):
+        """The shares of buys counted above the price, and those of sells counted below it."""
+        above = sum(shares for counted, shares in self.buys if counted > price)
+        return above, sum(shares for counted, shares in self.sells if counted < price)
+
+    def clearing_price(self, twice, prices):
+        """The three steps, over these prices."""
+        by_executed = {price: self.executed(price) for price in prices}
+        most = max(by_executed.values())
+        kept = [price for price, executed in by_executed.items() if executed == most]
+        kept = [price for price in kept if max(self.better_priced(price)) <= most]
+        return min(kept, key=lambda price: (abs(2 * price - twice), price))
+
+    def all_prices(self):
+        return range(self.low, self.high + 1)
+
+    def turning_prices(self, twice):
+        """The prices at which anything changes: each counted price and its neighbours, the ends of the range, and the
+        prices next to the tie-breaker, moved into the range. Between two counted prices that follow one another no
+        count changes, so of the prices there only the outermost and those next to the tie-breaker can win.
+        """
+        found = {self.low, self.high}
+        for counted, _ in self.buys + self.sells:
+            found |= {counted - 1, counted, counted + 1}
+        found |= {min(max(price, self.low), self.high) for price in (twice // 2, (twice + 1) // 2)}
+        return sorted(price for price in found if self.low <= price <= self.high)
+
+    def clears(self, twice):
+        """The price, and the executed shares and the imbalance there. In ranges of up to 3,000 prices each one is
+        tried; in wider ones, of up to 20,000,000, only those at which anything changes.
+        """
+        few = self.high - self.low < 3_000
+        price = self.clearing_price(twice, self.all_prices() if few else self.turning_prices(twice))
+        return price, self.executed(price), self.bought(price) - self.sold(price)
+
+
+def reference_range(bid, offer, last_sale):
+    return (bid, offer) if bid != 0 and offer != 0 and bid <= offer else (last_sale, last_sale)
+
+
+def collar_of(low, high):
+    threshold = max(50, (low + high) // 20)
+    return max(LOWEST_PRICE, low - threshold), min(HIGHEST_PRICE, high + threshold)
+
+
+# ---------------------------------------------------------------------------------------------------------------------
+# What a line asks: each kind has the text after the name, and the answer
+
+
+class Read:
+    def __init__(self, data):
+        self.data = data
+
+    def text(self):
+        return told(self.data)
+
+    def answer(self, name):
+        return answer(name, self.data)
+
+
+class Price:
+    """One file or two; `clears` is the price and the executed shares where the case is known to give them."""
+
+    def __init__(self, low, high, twice, *files, clears=None):
+        self.low, self.high, self.twice, self.files, self.expected = low, high, twice, files, clears
+
+    def text(self):
+        joined = "joined " if len(self.files) == 2 else ""
+        return f"{joined}price {self.low} {self.high} {self.twice} {' '.join(told(data) for data in self.files)}"
+
+    def answer(self, name):
+        orders = []
+        try:
+            for data in self.files:
+                orders += read_session(data)[1]
+        except Refused as refused:
+            number, layer, byte = refused.answer
+            return [f"{name} refused,{number},{layer},{byte}"]
+        if not (is_price(self.low) and is_price(self.high) and self.low <= self.high):
+            return [f"{name} refused,5,0,0"]
+        price, executed, imbalance = Pricing(orders, self.low, self.high).clears(self.twice)
+        assert self.expected in (None, (price, executed)), (name, price, executed)
+        return [f"{name} clears,{price},{executed},{imbalance}"]
+
+
+class Collar:
+    """A quote; `collar` is its collar where the case is known to give it."""
+
+    def __init__(self, bid, offer, last_sale, collar=None):
+        self.bid, self.offer, self.last_sale, self.expected = bid, offer, last_sale, collar
+
+    def text(self):
+        return f"collar {self.bid} {self.offer} {self.last_sale}"
+
+    def answer(self, name):
+        if not (is_quoted(self.bid) and is_quoted(self.offer) and is_price(self.last_sale)):
+            return [f"{name} refused,5,0,0"]
+        low, high = reference_range(self.bid, self.offer, self.last_sale)
+        collar = collar_of(low, high)
+        assert self.expected in (None, collar), (name, collar)
+        return [f"{name} collar,{low},{high},{low + high},{collar[0]},{collar[1]}"]
+
+
+class Unreadable:
+    def __init__(self, words):
+        self.words = words
+
+    def text(self):
+        return self.words
+
+    def answer(self, name):
+        return [f"{name} unreadable"]
 
 
 # ---------------------------------------------------------------------------------------------------------------------
@@ -620,10 +775,361 @@ def mutations():
         yield f"mutation-{count}-of-{name}", data
 
 
+# ---------------------------------------------------------------------------------------------------------------------
+# The cases of quotes
+
+
+def quotes_of_note():
+    yield "collar-a-twentieth-of-the-sum", Collar(1000, 1100, 1000, collar=(895, 1205))
+    for last_sale in (1, 50, 1000, 20_000_000):
+        yield f"collar-of-40-and-60-with-last-sale-{last_sale}", Collar(40, 60, last_sale, collar=(1, 110))
+    yield "collar-of-bid-above-offer-is-the-last-sales", Collar(1100, 1000, 1000, collar=(900, 1100))
+    yield "collar-of-bid-a-cent-above-offer", Collar(1001, 1000, 2000, collar=(1800, 2200))
+    yield "collar-of-bid-equal-to-offer", Collar(1000, 1000, 2000, collar=(900, 1100))
+    yield "collar-of-bid-a-cent-below-offer", Collar(1000, 1001, 2000, collar=(900, 1101))
+    yield "collar-with-no-bid", Collar(0, 1100, 1000, collar=(900, 1100))
+    yield "collar-with-no-offer", Collar(1100, 0, 1000, collar=(900, 1100))
+    yield "collar-with-no-bid-and-no-offer", Collar(0, 0, 1000, collar=(900, 1100))
+    yield "collar-of-1380-and-1400", Collar(1380, 1400, 1390, collar=(1241, 1539))
+    for bid, offer in ((499, 500), (500, 500), (500, 501), (509, 510), (510, 510), (510, 511), (1, 999), (20, 1000)):
+        yield f"collar-threshold-of-sum-{bid + offer}-from-{bid}-and-{offer}", Collar(bid, offer, 7)
+    for last_sale in (499, 500, 501, 509, 510, 519, 520):
+        yield f"collar-threshold-of-last-sale-{last_sale}", Collar(0, 0, last_sale)
+
+
+def quotes_at_the_ends():
+    low, high = LOWEST_PRICE, HIGHEST_PRICE
+    for name, bid, offer in (("lowest", low, low), ("highest", high, high), ("both-ends", low, high)):
+        yield f"collar-of-quote-at-{name}", Collar(bid, offer, 1000)
+    yield "collar-of-quote-at-both-ends-crossed", Collar(high, low, 1000)
+    for last_sale in (1, 2, 50, 51, 52, 19_999_999, 20_000_000):
+        yield f"collar-of-last-sale-{last_sale}", Collar(0, 0, last_sale)
+        yield f"collar-of-last-sale-{last_sale}-with-a-bid-only", Collar(1000, 0, last_sale)
+    for bid in (49, 50, 51, 52, 53):
+        yield f"collar-low-end-of-bid-{bid}", Collar(bid, 100, 1000)
+    for offer in (18_181_817, 18_181_818, 18_181_819, 18_181_820, 18_181_821):
+        yield f"collar-high-end-of-offer-{offer}", Collar(offer, offer, 1000)
+    yield "collar-low-end-far-below-a-wide-quote", Collar(1000, 20_000, 1)
+    yield "collar-low-end-just-above-1-of-a-wide-quote", Collar(1_000_002, 19_000_000, 1)
+
+
+def quotes_refused():
+    for value in (20_000_001, 2**31, 2**32 - 1):
+        yield f"collar-refused-bid-{value}", Collar(value, 1100, 1000)
+        yield f"collar-refused-offer-{value}", Collar(1000, value, 1000)
+        yield f"collar-refused-last-sale-{value}", Collar(0, 0, value)
+    yield "collar-refused-last-sale-0", Collar(0, 0, 0)
+    yield "collar-refused-last-sale-0-with-a-quote", Collar(1000, 1100, 0)
+    yield "collar-refused-last-sale-20000001-with-a-quote", Collar(1000, 1100, 20_000_001)
+    yield "collar-refused-bid-20000001-with-no-offer", Collar(20_000_001, 0, 1000)
+    yield "collar-refused-all-three", Collar(20_000_001, 20_000_001, 0)
+
+
+def quotes_drawn():
+    numbers = Numbers(20_260_118)
+    for count in range(1, 121):
+        most = numbers.one_of([60, 600, 1100, 5000, 20_000_000])
+        bid, offer, last_sale = (1 + numbers.below(most) for _ in range(3))
+        if numbers.below(5) == 0:
+            bid, offer = numbers.one_of([(0, offer), (bid, 0), (0, 0), (bid, bid)])
+        yield f"collar-drawn-{count}", Collar(bid, offer, last_sale)
+
+
+# ---------------------------------------------------------------------------------------------------------------------
+# The cases of books
+
+
+def buy(shares, limit):
+    return (0, shares, limit)
+
+
+def sell(shares, limit):
+    return (1, shares, limit)
+
+
+# A file has no market orders; these limits count as they would.
+def market_buy(shares):
+    return buy(shares, HIGHEST_PRICE)
+
+
+def market_sell(shares):
+    return sell(shares, LOWEST_PRICE)
+
+
+def book(*orders):
+    """The file whose resting orders these are."""
+    placed = enumerate(orders)
+    return file(resting=b"".join(order(side, 1, i + 1, limit, shares) for i, (side, shares, limit) in placed))
+
+
+def in_collar(bid, offer, last_sale, *orders, clears=None):
+    """The book in the collar of a quote."""
+    low, high = reference_range(bid, offer, last_sale)
+    return Price(*collar_of(low, high), low + high, book(*orders), clears=clears)
+
+
+def books_of_note():
+    def priced(*orders, clears):
+        return Price(895, 1205, 2100, book(*orders), clears=clears)
+
+    yield "price-more-bought-so-at-the-buy", priced(buy(300, 1050), sell(200, 1020), clears=(1050, 200))
+    yield "price-more-bought-order-turned", priced(sell(200, 1020), buy(300, 1050), clears=(1050, 200))
+    yield "price-more-sold-so-at-the-sell", priced(buy(200, 1060), sell(300, 1055), clears=(1055, 200))
+    yield "price-as-many-so-at-the-tie-breaker", priced(buy(200, 1060), sell(200, 1020), clears=(1050, 200))
+    yield "price-as-many-above-the-tie-breaker", priced(buy(200, 1080), sell(200, 1070), clears=(1070, 200))
+    yield "price-as-many-below-the-tie-breaker", priced(buy(200, 1030), sell(200, 1020), clears=(1030, 200))
+    sells = (sell(200, 1020), sell(200, 1040))
+    yield "price-market-buy-at-the-high-end", priced(market_buy(500), *sells, clears=(1205, 400))
+    yield "price-market-buy-of-as-many", priced(market_buy(400), *sells, clears=(1050, 400))
+    yield "price-market-sell-at-the-low-end", priced(market_sell(500), buy(400, 1060), clears=(895, 400))
+    yield "price-no-orders", priced(clears=(1050, 0))
+    yield "price-no-resting-body", Price(895, 1205, 2100, file(), clears=(1050, 0))
+    yield "price-no-overlap", priced(buy(200, 1040), sell(200, 1060), clears=(1050, 0))
+    yield "price-no-overlap-above-the-tie-breaker", priced(buy(200, 1070), sell(200, 1090), clears=(1070, 0))
+    yield "price-no-overlap-below-the-tie-breaker", priced(buy(200, 1020), sell(200, 1040), clears=(1040, 0))
+    half = (buy(100, 1001), sell(100, 1000))
+    yield "price-lower-of-two-as-near", in_collar(1000, 1001, 7, *half, clears=(1000, 100))
+    yield "price-lower-of-two-as-near-turned", in_collar(1000, 1001, 7, *half[::-1], clears=(1000, 100))
+    yield "price-with-events-and-note", Price(895, 1205, 2100, ALL_FOUR)
+    yield "price-displayed-or-not-is-the-same", Price(1, 70_000, 2100, file(resting=TWO_ORDERS))
+
+
+def books_published():
+    def priced(*orders, clears):
+        return Price(1009, 1011, 2020, book(*orders), clears=clears)
+
+    yield "published-limits-at-the-middle", priced(buy(1500, 1010), sell(1000, 1010), clears=(1010, 1000))
+    yield "published-market-sell", priced(buy(1500, 1010), market_sell(1000), clears=(1010, 1000))
+    outer = (buy(500, 1009), sell(600, 1011))
+    crossed = (buy(2000, 1011), sell(2000, 1009))
+    yield "published-at-the-middle-of-the-quote", priced(*crossed, *outer, clears=(1010, 2000))
+    beyond = (buy(2000, 1008), sell(2000, 1008))
+    yield "published-held-to-the-quote", priced(*beyond, *outer, clears=(1009, 500))
+    one = book(buy(1500, 1011), sell(1000, 1009))
+    yield "published-one-price", Price(1010, 1010, 2020, one, clears=(1010, 1000))
+    markets = [make(1000) for make in (market_buy, market_buy, market_sell, market_sell)]
+    yield "published-market-orders-only", in_collar(0, 0, 1005, *markets, clears=(1005, 2000))
+    buys = [buy(5000, 1375), buy(2000, 1400), buy(7000, 1350), buy(9000, 1375), buy(1000, 1380)]
+    sells = [sell(5000, 1400), sell(1000, 1375), sell(2000, 1390), sell(4000, 1300), sell(6000, 1200)]
+    yield "published-limits-only-at-1375", in_collar(1380, 1400, 7, *buys, *sells, clears=(1375, 11_000))
+    sells = [sell(10_000, 1001), sell(10_000, 1002), market_sell(50_000), sell(20_000, 990), sell(30_000, 1005)]
+    mixed = [buy(10_000, 1000), market_buy(100_000), *sells]
+    yield "published-market-and-limits-at-1005", in_collar(1000, 1001, 7, *mixed, clears=(1005, 100_000))
+
+
+def books_of_one_side():
+    for limit in (1, 894, 895, 896, 1049, 1050, 1051, 1204, 1205, 1206, 20_000_000):
+        for twice in (1790, 2100, 2101, 2410):
+            yield f"price-one-buy-at-{limit}-twice-{twice}", Price(895, 1205, twice, book(buy(200, limit)))
+            yield f"price-one-sell-at-{limit}-twice-{twice}", Price(895, 1205, twice, book(sell(200, limit)))
+    limits = (1000, 1040, 1060, 1100)
+    yield "price-buys-only", Price(895, 1205, 2100, book(*(buy(100, limit) for limit in limits)))
+    yield "price-sells-only", Price(895, 1205, 2100, book(*(sell(100, limit) for limit in limits)))
+
+
+def books_in_one_price():
+    crossed = book(buy(300, 1060), sell(200, 1020))
+    for price in (1, 2, 1010, 1040, 1070, 19_999_999, 20_000_000):
+        for twice in (0, 2 * price, 2 * price + 1, 2**32 - 1):
+            yield f"price-range-of-{price}-alone-twice-{twice}", Price(price, price, twice, crossed)
+        yield f"price-range-of-{price}-alone-no-orders", Price(price, price, 2100, book())
+
+
+def books_by_tie_breaker():
+    """Twice the tie-breaker from far below the range to far above it."""
+    books = {
+        "no-orders": book(),
+        "an-overlap": book(buy(200, 1060), sell(200, 1020)),
+        "a-gap": book(buy(200, 1020), sell(200, 1060)),
+        "more-bought": book(buy(300, 1060), buy(100, 1100), sell(200, 1020), sell(100, 1040)),
+        "more-sold": book(buy(100, 1060), buy(100, 1040), sell(200, 1020), sell(100, 1000)),
+    }
+    tried = [0, 1, 2, 1788, 1789, 1790, 1791, 1792, 2038, 2039, 2040, 2041, 2042, 2080, 2081, 2099, 2100, 2101]
+    tried += [2118, 2119, 2120, 2121, 2122, 2408, 2409, 2410, 2411, 2412, 40_000_000, 2**31, 2**32 - 2, 2**32 - 1]
+    for name, data in books.items():
+        for twice in tried:
+            yield f"price-{name}-twice-{twice}", Price(895, 1205, twice, data)
+
+
+def books_in_the_widest_range():
+    ends = [buy(200, 20_000_000), sell(200, 1)]
+    books = {
+        "no-orders": [],
+        "buy-at-the-high-end": ends[:1],
+        "sell-at-the-low-end": ends[1:],
+        "both-ends-crossed": ends,
+        "both-ends-crossed-more-bought": [buy(300, 20_000_000), sell(200, 1)],
+        "both-ends-crossed-more-sold": [buy(200, 20_000_000), sell(300, 1)],
+        "both-ends-apart": [buy(200, 1), sell(200, 20_000_000)],
+        "a-cent-from-the-ends": [buy(200, 19_999_999), sell(200, 2), buy(100, 2), sell(100, 19_999_999)],
+        "a-cent-from-the-ends-apart": [buy(200, 2), sell(200, 19_999_999)],
+        "buys-at-both-ends": [buy(200, 1), buy(300, 20_000_000), sell(400, 10_000_000)],
+        "sells-at-both-ends": [sell(200, 1), sell(300, 20_000_000), buy(400, 10_000_000)],
+        "an-overlap-of-one-price": [buy(100, 7_654_321), sell(100, 7_654_321)],
+        "a-gap-of-one-price": [buy(100, 7_654_320), sell(100, 7_654_322)],
+        "a-gap-of-none": [buy(100, 7_654_320), sell(100, 7_654_321)],
+        "more-bought-at-7654321": [buy(300, 7_654_321), sell(200, 1)],
+        "more-sold-at-7654321": [buy(200, 20_000_000), sell(300, 7_654_321)],
+    }
+    for name, orders in books.items():
+        for twice in (0, 2, 3, 15_308_641, 20_000_001, 39_999_999, 40_000_000, 2**32 - 1):
+            yield f"price-widest-{name}-twice-{twice}", Price(1, 20_000_000, twice, book(*orders))
+
+
+def books_of_many_orders():
+    ladder = file(resting=many_orders(256))
+    ranges = [(895, 1205, 2100), (1, 20_000_000, 2255), (1128, 1128, 0), (1300, 1310, 2605), (1, 900, 9)]
+    for low, high, twice in ranges:
+        yield f"price-256-orders-in-{low}-to-{high}", Price(low, high, twice, ladder)
+    most = 1_000_000
+    books = {
+        "buys": [buy(most, 1000 + i) for i in range(256)],
+        "sells": [sell(most, 1000 + i) for i in range(256)],
+        "of-each-side-128-crossed": [(i % 2, most, 1300 - i) for i in range(256)],
+        "of-each-side-128-by-halves": [(i // 128, most, 1000 + i) for i in range(256)],
+        "of-each-side-128-at-one-price": [(i % 2, most, 1100) for i in range(256)],
+        "one-sell-among-buys-last": [buy(most, 1100)] * 255 + [sell(most, 1050)],
+        "one-buy-among-sells-first": [buy(most, 1100)] + [sell(most, 1050)] * 255,
+    }
+    for name, orders in books.items():
+        yield f"price-256-orders-{name}", Price(895, 1205, 2100, book(*orders))
+    numbers = Numbers(20_260_119)
+    for count in range(1, 9):
+        orders = [(numbers.below(2), 1 + numbers.below(most), 980 + numbers.below(140)) for _ in range(256)]
+        yield f"price-256-orders-drawn-{count}", Price(895, 1205, 2050 + 9 * count, book(*orders))
+
+
+def books_refused():
+    crossed = book(buy(300, 1060), sell(200, 1020))
+    short = crossed[:-1]
+    bad = file(resting=order() + order(side=2))
+    ranges = [(0, 1205), (0, 0), (895, 0), (895, 20_000_001), (20_000_001, 20_000_001), (896, 895), (20_000_000, 1)]
+    ranges += [(20_000_001, 895), (895, 2**32 - 1), (2**32 - 1, 895), (2**31, 2**31)]
+    for low, high in ranges:
+        yield f"price-refused-range-{low}-to-{high}", Price(low, high, 2100, crossed)
+        yield f"joined-refused-range-{low}-to-{high}", Price(low, high, 2100, crossed, crossed)
+    yield "price-refused-empty-file", Price(895, 1205, 2100, b"")
+    yield "price-refused-file", Price(895, 1205, 2100, bad)
+    yield "price-refused-file-before-the-range", Price(1205, 895, 2100, bad)
+    yield "joined-refused-first", Price(895, 1205, 2100, short, crossed)
+    yield "joined-refused-second", Price(895, 1205, 2100, crossed, short)
+    yield "joined-refused-both-by-the-first", Price(895, 1205, 2100, bad, short)
+    yield "joined-refused-both-by-the-first-turned", Price(895, 1205, 2100, short, bad)
+    yield "joined-refused-both-empty", Price(895, 1205, 2100, b"", b"")
+    yield "joined-refused-second-before-the-range", Price(1205, 895, 2100, crossed, b"")
+
+
+def books_joined():
+    def priced(first, second, clears=None):
+        return Price(895, 1205, 2100, first, second, clears=clears)
+
+    some, more = book(buy(300, 1050)), book(sell(200, 1020))
+    yield "joined-a-side-in-each", priced(some, more, clears=(1050, 200))
+    yield "joined-a-side-in-each-turned", priced(more, some, clears=(1050, 200))
+    yield "joined-first-alone", priced(some, book())
+    yield "joined-second-alone", priced(book(), some)
+    yield "joined-first-with-no-resting-body", priced(file(), more)
+    yield "joined-no-orders", priced(book(), file(), clears=(1050, 0))
+    yield "joined-same-twice", priced(ALL_FOUR, ALL_FOUR)
+    ladder = file(resting=many_orders(256))
+    yield "joined-512-orders", priced(ladder, ladder)
+    yield "joined-256-orders-and-1", priced(ladder, some)
+    yield "joined-1-order-and-256", priced(more, ladder)
+    buys, sells = [book(*[make(1_000_000)] * 256) for make in (market_buy, market_sell)]
+    yield "joined-512-orders-with-most-shares", priced(buys, sells)
+    yield "joined-512-buys-with-most-shares", priced(buys, buys)
+    yield "joined-512-sells-with-most-shares", priced(sells, sells)
+
+
+def drawn_range(numbers):
+    """A small range, at the lowest prices, at the highest or in between, and a tie-breaker in it or near it."""
+    width = numbers.below(13)
+    low = numbers.one_of([1, 1 + numbers.below(6), 1000 + numbers.below(20), HIGHEST_PRICE - width - numbers.below(4)])
+    low = min(low, HIGHEST_PRICE - width)
+    twice = 2 * low + numbers.below(2 * width + 1)
+    if numbers.below(4) == 0:
+        twice = max(0, 2 * low - 8 + numbers.below(2 * width + 17))
+    return low, low + width, twice
+
+
+def drawn_order(numbers, low, high, most_shares):
+    side = numbers.below(2)
+    if numbers.below(12) == 0:
+        limit = LOWEST_PRICE if side else HIGHEST_PRICE
+    else:
+        limit = min(max(low - 3 + numbers.below(high - low + 7), LOWEST_PRICE), HIGHEST_PRICE)
+    return side, 1 + numbers.below(most_shares), limit
+
+
+def drawn_orders(numbers, low, high, most):
+    """Up to so many orders, of few numbers of shares, so that sums are often equal."""
+    most_shares = numbers.one_of([1, 2, 3, 5, 1_000_000])
+    return [drawn_order(numbers, low, high, most_shares) for _ in range(numbers.below(most + 1))]
+
+
+def books_drawn():
+    numbers = Numbers(20_260_120)
+    for count in range(1, 1501):
+        low, high, twice = drawn_range(numbers)
+        yield f"price-drawn-{count}", Price(low, high, twice, book(*drawn_orders(numbers, low, high, 12)))
+    for count in range(1, 201):
+        low, high, twice = drawn_range(numbers)
+        files = [book(*drawn_orders(numbers, low, high, 8)) for _ in range(2)]
+        yield f"joined-drawn-{count}", Price(low, high, twice, *files)
+
+
+def check_turning_prices():
+    """Holds the prices that are tried in wide ranges to all prices, in small ones."""
+    numbers = Numbers(20_260_121)
+    for _ in range(500):
+        low, high, twice = drawn_range(numbers)
+        orders = read_session(book(*drawn_orders(numbers, low, high, 12)))[1]
+        pricing = Pricing(orders, low, high)
+        assert pricing.clearing_price(twice, pricing.all_prices()) == pricing.clearing_price(
+            twice, pricing.turning_prices(twice)
+        ), (low, high, twice, orders)
+
+
+def unreadable_lines():
+    data = told(book(buy(300, 1060)))
+    lines = {
+        "word-alone": "price",
+        "unknown-word": f"prices 895 1205 2100 {data}",
+        "capital-word": f"Price 895 1205 2100 {data}",
+        "price-with-nothing": "price ",
+        "price-with-two-numbers": f"price 895 1205 {data}",
+        "price-with-no-file": "price 895 1205 2100",
+        "price-with-two-files": f"price 895 1205 2100 {data} {data}",
+        "price-with-two-spaces": f"price  895 1205 2100 {data}",
+        "price-with-a-number-too-large": f"price 895 1205 4294967296 {data}",
+        "price-with-a-number-below-zero": f"price -1 1205 2100 {data}",
+        "price-with-a-file-cut-in-a-pair": f"price 895 1205 2100 {data[:-1]}",
+        "joined-without-price": f"joined 895 1205 2100 {data} {data}",
+        "joined-with-one-file": f"joined price 895 1205 2100 {data}",
+        "joined-with-three-files": f"joined price 895 1205 2100 {data} {data} {data}",
+        "collar-with-two-prices": "collar 1000 1100",
+        "collar-with-four-prices": "collar 1000 1100 1000 1000",
+        "collar-with-a-space-after-it": "collar 1000 1100 1000 ",
+        "collar-with-a-word": "collar none 1100 1000",
+        "file-with-a-space-after-it": f"{data} ",
+        "file-with-a-space-before-it": f" {data}",
+        "two-files": f"{data} {data}",
+        "file-in-capitals": f"{data.upper()}AF",
+    }
+    for name, text in lines.items():
+        yield f"line-{name}", Unreadable(text)
+
+
 def all_cases():
-    groups = [sizes, masks, cuts, sums, lengths, fields_of_heading, fields_of_resting, fields_of_events]
-    groups += [faults_at_once, far_offsets, sessions, mutations]
-    for group in groups:
+    files = [sizes, masks, cuts, sums, lengths, fields_of_heading, fields_of_resting, fields_of_events]
+    files += [faults_at_once, far_offsets, sessions, mutations]
+    for group in files:
+        for name, data in group():
+            yield name, Read(data)
+    others = [quotes_of_note, quotes_at_the_ends, quotes_refused, quotes_drawn, books_of_note, books_published]
+    others += [books_of_one_side, books_in_one_price, books_by_tie_breaker, books_in_the_widest_range]
+    others += [books_of_many_orders, books_refused, books_joined, books_drawn, unreadable_lines]
+    for group in others:
         yield from group()
 
 
@@ -670,14 +1176,21 @@ def from_runs(text):
     return data
 
 
+def told(data):
+    """The file as the table has it."""
+    text = runs(data)
+    assert from_runs(text) == data
+    return text
+
+
 def main():
+    check_turning_prices()
     cases, answers, names = [], [], set()
-    for name, data in all_cases():
+    for name, case in all_cases():
         assert re.fullmatch("[A-Za-z0-9-]+", name) and name not in names, name
-        assert from_runs(runs(data)) == data, name
         names.add(name)
-        cases.append(f"{name} {runs(data)}")
-        answers += answer(name, data)
+        cases.append(f"{name} {case.text()}")
+        answers += case.answer(name)
     here = os.path.dirname(os.path.abspath(__file__))
     for name, lines in (("stdin", cases), ("stdout", answers)):
         with open(os.path.join(here, name), "w", encoding="ascii", newline="\n") as out:

@@ -9,6 +9,7 @@ use crate::shown::ShownEventDisplay;
 use crate::shown::ShownTerms;
 use crate::shown::ShownTermsDisplay;
 use book::Book;
+use market::refusal::Refusal;
 use session::events::FiledEvents;
 use session::file::read;
 use session::heading::Heading;
@@ -74,6 +75,14 @@ fn print_heading(
     )
 }
 
+/// The line for what is refused.
+pub(crate) fn print_refusal(rt: &LibcRuntime, name: &str, refusal: Refusal) -> io::Result<()> {
+    let number = refusal.number();
+    let layer = refusal.layer();
+    let byte = refusal.byte();
+    println!(rt, "{name} refused,{number},{layer},{byte}")
+}
+
 /// Reads the file, and prints what it holds or why it is refused.
 pub(crate) fn print(rt: &LibcRuntime, name: &str, file: &[u8]) -> io::Result<()> {
     let session = read(file);
@@ -85,11 +94,6 @@ pub(crate) fn print(rt: &LibcRuntime, name: &str, file: &[u8]) -> io::Result<()>
             print_orders(rt, session.resting)?;
             print_events(rt, session.events)
         }
-        Err(refusal) => {
-            let number = refusal.number();
-            let layer = refusal.layer();
-            let byte = refusal.byte();
-            println!(rt, "{name} refused,{number},{layer},{byte}")
-        }
+        Err(refusal) => print_refusal(rt, name, refusal),
     }
 }

@@ -7,3 +7,4 @@ pub mod Bisection
 pub mod Searching
 pub mod RankingLaws
 pub mod PlaceSums
+pub mod Allotting

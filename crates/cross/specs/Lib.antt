@@ -5,5 +5,6 @@ pub mod Serving
 pub mod Clearing
 pub mod Rankings
 pub mod Fills
+pub mod Allotments
 pub mod Crosses
 pub mod Cases

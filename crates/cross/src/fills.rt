@@ -7,11 +7,11 @@ ghost use lib.Dec.{ltb};
 ghost use lib.ListN.{length};
 ghost use Rattle.cross.specs.Fills.{at-place, fill, shares-ahead, willing};
 use crate::ranking::Ranking;
+use crate::ranking::is_same_side;
 use book::Book;
 use market::order::Order;
 use market::order::OrderPrice;
 use market::order::Side;
-use market::order::SidePartialEq;
 use market::range::PriceRange;
 
 /// Whether an order is willing at a price, by its counted price.
@@ -35,7 +35,7 @@ fn is_ahead<R: Ranking>(a: Order, a_place: usize, b: Order, b_place: usize) -> b
     if a_place < b_place {
         return R::as_good(a, b);
     }
-    a.terms.side == b.terms.side && !R::as_good(b, a)
+    is_same_side(a.terms.side, b.terms.side) && !R::as_good(b, a)
 }
 
 /// The shares of an order, if it is willing and ahead of another; else 0.

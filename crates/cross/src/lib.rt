@@ -1,5 +1,6 @@
 //! The cross of a book: the clearing price in a range, and the shares at a price.
 
+pub mod allotment;
 pub mod clearing;
 pub mod depth;
 pub mod fills;

@@ -39,11 +39,18 @@ fn is_better(side: Side, a: OrderPrice, b: OrderPrice) -> bool
     }
 }
 
+/// Whether two sides are one.
+pub(crate) fn is_same_side(a: Side, b: Side) -> bool
+    ensures { λ r. ⌜ r ≡ same-side a b ⌝ }
+{
+    a == b
+}
+
 /// By price, and of the same price by what a second rule says.
 fn by_price_then(a: OrderTerms, b: OrderTerms, then: bool) -> bool
     ensures { λ r. ⌜ r ≡ (same-side (a .side) (b .side) && (better-price (a .side) (a .price) (b .price) || (not (better-price (a .side) (b .price) (a .price)) && then))) ⌝ }
 {
-    a.side == b.side
+    is_same_side(a.side, b.side)
         && (is_better(a.side, a.price, b.price) || (!is_better(a.side, b.price, a.price) && then))
 }
 
