@@ -103,3 +103,26 @@ module _ (side : Side) (os : List OrderTerms) where
       count ∙ (inv .0 ∙ ap length (sym (places-left k e))),
       same ∙ (inv .1 ∙ (passed k w before e ∙ ap (λ n. side-allotments side os fill (k + 1) ++ drop n before) (sym count))),
     )
+
+not-buy : (s : Side) → same-side Sell s ≡ not (same-side Buy s)
+not-buy Buy = refl
+not-buy Sell = refl
+
+-- every place is of one side
+pub sides-all : (os : List OrderTerms) → length (side-places Buy os (length os)) + length (side-places Sell os (length os)) ≡ length os
+sides-all os =
+    length-kept-by-both (λ i. same-side Buy (at-place os i .side)) (λ i. same-side Sell (at-place os i .side)) (λ i. not-buy (at-place os i .side)) (counting 0 (length os))
+    ∙ length-counting 0 (length os)
+
+-- what a list holds once its rear part was lent, and written at its front
+pub rear-written : {X : Type 0} (front rear l w part : List X) (n k m : ℕ) → length front ≡ n → w ≡ front ++ drop n l → k ≡ length w - n
+    → part ≡ rear ++ drop m (take k (drop n w)) → putMid n k w part ≡ front ++ (rear ++ drop (n + m) l)
+rear-written front rear l w part n k m e w-is k-is part-is =
+    let a : take n w ≡ front = ap (take n) w-is ∙ take-at front (drop n l) n e in
+    let b : drop n w ≡ drop n l = ap (drop n) w-is ∙ drop-at front (drop n l) n e in
+    let long : length (drop n w) ≤ k = simp length-drop (omega arith) in
+    let len : length (drop n l) ≤ k = omega (arith, ap length b) in
+    let t : take k (drop n l) ≡ drop n l = take-all k (drop n l) len in
+    let z : drop k (drop n l) ≡ [] = drop-all k (drop n l) len in
+    let d : drop m (drop n l) ≡ drop (n + m) l = drop-drop m n l in
+    simp (a, part-is, b, t, z, d, append-nil)

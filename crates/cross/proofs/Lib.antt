@@ -6,5 +6,9 @@ pub mod ClearingPrice
 pub mod Bisection
 pub mod Searching
 pub mod RankingLaws
-pub mod PlaceSums
+pub mod AheadSteps
 pub mod Allotting
+pub mod PlaceSums
+pub mod InTurn
+pub mod FillSums
+pub mod BestCross

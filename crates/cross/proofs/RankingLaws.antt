@@ -1,21 +1,16 @@
 -- The two rankings are lawful: price first is, where a rule that is total and transitive decides among one price.
-use mathlib.Core.Bool.{Bool, true, false, not, _&&_, _||_}
+use mathlib.Core.Bool.{Bool, true, false}
 use mathlib.Core.Path.{_≡_}
 use native.Mathlib.Omega.{arith}
 use Rattle.std.proofs.shelf.Ways.{tells}
 use Rattle.market.specs.declared.order.OrderTerms.{OrderTerms}
-use Rattle.cross.specs.Rankings.{Laws, by-display, by-shares, better-price, same-side}
+use Rattle.cross.specs.Rankings.{Laws, by-display, by-price-then, by-shares}
 
-abbrev price-then : (OrderTerms → OrderTerms → Bool) → OrderTerms → OrderTerms → Bool
-price-then then a b =
-    same-side (a .side) (b .side)
-    && (better-price (a .side) (a .price) (b .price) || (not (better-price (a .side) (b .price) (a .price)) && then a b))
-
-price-then-laws : (then : OrderTerms → OrderTerms → Bool)
+by-price-then-laws : (then : OrderTerms → OrderTerms → Bool)
     → ((a b : OrderTerms) → then a b ≡ false → then b a ≡ true)
     → ((a b c : OrderTerms) → then a b ≡ true → then b c ≡ true → then a c ≡ true)
-    → Laws (price-then then)
-price-then-laws then total transitive = record {
+    → Laws (by-price-then then)
+by-price-then-laws then total transitive = record {
   one-side = λ a b e. grind arith;
   total = λ a b e f. let other = total a b in grind (arith, tells);
   transitive = λ a b c e f. let chain = transitive a b c in grind (arith, tells);
@@ -23,7 +18,7 @@ price-then-laws then total transitive = record {
 }
 
 pub display-laws : Laws by-display
-display-laws = price-then-laws _ (λ a b e. grind (arith, tells)) (λ a b c e f. grind (arith, tells))
+display-laws = by-price-then-laws _ (λ a b e. grind (arith, tells)) (λ a b c e f. grind (arith, tells))
 
 pub shares-laws : Laws by-shares
-shares-laws = price-then-laws _ (λ a b e. grind (arith, tells)) (λ a b c e f. grind (arith, tells))
+shares-laws = by-price-then-laws _ (λ a b e. grind (arith, tells)) (λ a b c e f. grind (arith, tells))

@@ -39,3 +39,18 @@ fn write_side<B: Book, R: Ranking>(
     }
     written
 }
+
+/// Writes the buys first, and right behind them the sells into the rear part of the list.
+pub(crate) fn allot<B: Book, R: Ranking>(
+    book: &B,
+    range: PriceRange,
+    price: u32,
+    executed: u32,
+    list: &mut [Allotment],
+)
+    requires { ⌜ length (B·Book .orders (now book)) ≤ length (now list) ⌝ }
+    ensures { λ _. ⌜ now (list .exit) ≡ allotted (B·Book .orders (now (book .entry))) (fill (range .lowest .cents) (range .highest .cents) (R·Ranking .good) (B·Book .orders (now (book .entry))) price executed) (now (list .entry)) ⌝ }
+{
+    let buys = write_side::<B, R>(book, range, price, executed, Side::Buy, list);
+    let _ = write_side::<B, R>(book, range, price, executed, Side::Sell, &mut list[buys..]);
+}

@@ -6,7 +6,7 @@ use lib.ListN.{length}
 use Rattle.std.specs.Iters.{counting}
 use Rattle.std.specs.shelf.Lists.{sumBy}
 use Rattle.cross.specs.Fills.{at-place, shares-ahead}
-use Rattle.cross.proofs.PlaceSums.{ahead-more, ahead-of, found-at}
+use Rattle.cross.proofs.AheadSteps.{ahead-more, ahead-of, found-at}
 use Rattle.cross.proofs.fills.shares_before.Needs as need
 use Rattle.cross.proofs.fills.shares_before.Needs.{in-Some, in-rest}
 

@@ -3,7 +3,7 @@ use Prim.Native.Nat.{_*_, _≤_}
 use Rattle.std.specs.Iters.{counting}
 use Rattle.std.specs.shelf.Lists.{sumBy}
 use Rattle.cross.specs.Fills.{at-place}
-use Rattle.cross.proofs.PlaceSums.{ahead-of}
+use Rattle.cross.proofs.AheadSteps.{ahead-of}
 use Rattle.cross.proofs.fills.shares_before.Given as given
 
 -- the sum over the places passed, and a bound of it

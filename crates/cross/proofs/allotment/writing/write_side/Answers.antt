@@ -11,7 +11,7 @@ use Rattle.cross.specs.Allotments.{allotment, side-allotments, side-places}
 use Rattle.cross.specs.Fills.{at-place, fill}
 use Rattle.cross.specs.Rankings.{same-side}
 use Rattle.cross.proofs.Allotting.{places-within, room, writes-none, writes-one}
-use Rattle.cross.proofs.PlaceSums.{found-at}
+use Rattle.cross.proofs.AheadSteps.{found-at}
 use Rattle.cross.proofs.allotment.writing.write_side.Given as given
 use Rattle.cross.proofs.allotment.writing.write_side.Needs as need
 use Rattle.cross.proofs.allotment.writing.write_side.Needs.{in-Some·then-is-same-side, in-Some·else-is-same-side, in-rest}
