@@ -7,4 +7,5 @@ pub mod Rankings
 pub mod Fills
 pub mod Allotments
 pub mod Crosses
+pub mod Crossing
 pub mod Cases

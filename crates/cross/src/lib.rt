@@ -2,6 +2,7 @@
 
 pub mod allotment;
 pub mod clearing;
+pub mod crossing;
 pub mod depth;
 pub mod fills;
 pub mod ranking;
