@@ -11,6 +11,8 @@ use Rattle.market.specs.declared.order.OrderTerms.{OrderTerms}
 use Rattle.market.specs.Ranges.{collar-highest, collar-lowest, reference-highest, reference-lowest, twice-middle}
 use Rattle.cross.specs.Depth.{executed}
 use Rattle.cross.specs.Clearing.{clearing-price}
+use Rattle.cross.specs.Crossing.{clearing-fills}
+use Rattle.cross.specs.Rankings.{by-display, by-shares}
 
 abbrev order : Side → OrderPrice → ℕ → OrderTerms
 order side price shares = record {
@@ -72,10 +74,30 @@ empty-book-at-tie-breaker = clears 1000 1100 [] 1050 0
 abbrev pub lower-of-two-as-near : Bool
 lower-of-two-as-near = clears 1000 1001 (buy 100 1001 ∷ sell 100 1000 ∷ []) 1000 100
 
+-- a sell of 300 against a hidden buy with entry number 1 and a displayed one with entry number 2, each of 200, all at
+-- one price
+abbrev two-buys : List OrderTerms
+two-buys =
+    sell 300 1050
+    ∷ record { side = Buy; price = Limit 1050; shares = 200; entry = 1; displayed = false; stays = false }
+    ∷ record { side = Buy; price = Limit 1050; shares = 200; entry = 2; displayed = true; stays = false }
+    ∷ []
+
+-- what the two buys get under a ranking, in the collar of the quote 1000 / 1100
+abbrev two-fills : (OrderTerms → OrderTerms → Bool) → (hidden displayed : ℕ) → Bool
+two-fills good n m =
+    eqb (clearing-fills 895 1205 good two-buys 2100 1) n && eqb (clearing-fills 895 1205 good two-buys 2100 2) m
+
+abbrev pub displayed-served-first : Bool
+displayed-served-first = two-fills by-display 100 200
+
+abbrev pub earlier-served-first : Bool
+earlier-served-first = two-fills by-shares 200 100
+
 abbrev pub all-cases : Bool
 all-cases =
     wide-collar
     && (low-collar
     && (crossed-quote-collar
     && (buy-excess-lifts-price
-    && (tie-breaker-between-limits && (market-buy-counts-at-edge && (empty-book-at-tie-breaker && lower-of-two-as-near))))))
+    && (tie-breaker-between-limits && (market-buy-counts-at-edge && (empty-book-at-tie-breaker && (lower-of-two-as-near && (displayed-served-first && earlier-served-first))))))))
