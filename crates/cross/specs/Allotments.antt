@@ -23,7 +23,10 @@ allotment fill i = record { place = i; fill = fill i }
 abbrev pub side-allotments : Side → List OrderTerms → (ℕ → ℕ) → (n : ℕ) → List Allotment
 side-allotments side os fill n = map (allotment fill) (side-places side os n)
 
+-- the records of all orders: the buys, and then the sells
+abbrev pub allotments : List OrderTerms → (ℕ → ℕ) → List Allotment
+allotments os fill = side-allotments Buy os fill (length os) ++ side-allotments Sell os fill (length os)
+
 -- what the list holds after it held `before`: later records stay
 abbrev pub allotted : List OrderTerms → (ℕ → ℕ) → (before : List Allotment) → List Allotment
-allotted os fill before =
-    side-allotments Buy os fill (length os) ++ (side-allotments Sell os fill (length os) ++ drop (length os) before)
+allotted os fill before = allotments os fill ++ drop (length os) before

@@ -1,11 +1,9 @@
 //! Holdzaus: a session file on standard input, the report of its opening auction on standard output.
 
+use report::MOST_INPUT;
 use report::report;
 use std::io;
 use std::io::Read;
-
-/// One byte more than the largest session file, so that longer input is refused and endless input is not read on.
-const MOST_INPUT: u64 = 65_536;
 
 fn main(rt: LibcRuntime) -> io::Result<()> {
     let mut file = Vec::new(rt.alloc());

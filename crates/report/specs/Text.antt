@@ -1,13 +1,24 @@
 -- What the report of a session file says.
+use mathlib.Core.Bool.{Bool, cond}
 use mathlib.Core.List.{List, [], _∷_, _++_}
 use mathlib.Core.Path.{_≡_}
 use Prim.Native.Nat.{ℕ}
 use lib.Chars.{codes}
+use lib.Dec.{eqb}
 use lib.ListN.{length}
+use Rattle.std.specs.Joined.{joined}
 use Rattle.std.specs.Written.{decimal}
 use Rattle.std.specs.declared.option.Option.{Option}
 use Rattle.std.specs.declared.option.Option.the-variants.{Some, None}
 use Rattle.market.specs.Causes.{Cause}
+use Rattle.market.specs.Ranges.{collar-highest, collar-lowest, twice-middle}
+use Rattle.market.specs.declared.order.OrderTerms.{OrderTerms}
+use Rattle.cross.specs.declared.allotment.Allotment.{Allotment}
+use Rattle.cross.specs.Allotments.{allotments}
+use Rattle.cross.specs.Clearing.{clearing-price}
+use Rattle.cross.specs.Crossing.{clearing-fills}
+use Rattle.cross.specs.Depth.{executed}
+use Rattle.cross.specs.Rankings.{by-display, by-shares}
 use Rattle.session.specs.Faults.{fault}
 use Rattle.session.specs.Layout.{KeepsLayout, Session}
 
@@ -30,11 +41,67 @@ abbrev pub count : {X : Type 0} → Option (List X) → ℕ
 count None = 0
 count (Some xs) = length xs
 
+abbrev pub or-empty : {X : Type 0} → Option (List X) → List X
+or-empty None = []
+or-empty (Some xs) = xs
+
 -- resting orders, events, note bytes, last sale and ranking
 abbrev pub read-line : Session → List ℕ
 read-line s = line (codes "read") (count (s .resting) ∷ count (s .events) ∷ count (s .note) ∷ s .lastSale ∷ s .ranking ∷ [])
 
--- a file that keeps the layout is told by what is in it, any other by its one cause
-pub record Reports (file text : List ℕ) : Type 0 where
-  pub accepted : (s : Session) → KeepsLayout file s → text ≡ first-line ++ read-line s
-  pub refused : (c : Cause) → fault file ≡ Some c → text ≡ first-line ++ refused-line c
+-- the line of one record of an allotment list
+abbrev pub fill-line : Allotment → List ℕ
+fill-line a = line (codes "fill") (a .place ∷ a .fill ∷ [])
+
+-- the ranking that a heading names
+abbrev pub ranking-of : ℕ → OrderTerms → OrderTerms → Bool
+ranking-of n = cond (eqb n 1) by-display by-shares
+
+-- what the resting orders would do by themselves, in the collar of the last sale
+module _ (lastSale : ℕ) (good : OrderTerms → OrderTerms → Bool) (os : List OrderTerms) where
+  abbrev low : ℕ
+  low = collar-lowest lastSale lastSale
+
+  abbrev high : ℕ
+  high = collar-highest lastSale lastSale
+
+  abbrev twice : ℕ
+  twice = twice-middle lastSale lastSale
+
+  abbrev pub collar-line : List ℕ
+  collar-line = line (codes "collar") (low ∷ high ∷ [])
+
+  abbrev pub clears-line : List ℕ
+  clears-line = line (codes "clears") (clearing-price low high twice os ∷ executed low high os (clearing-price low high twice os) ∷ [])
+
+  -- the buys by rising place, and then the sells
+  abbrev pub fill-lines : List ℕ
+  fill-lines = joined fill-line (allotments os (clearing-fills low high good os twice))
+
+  abbrev pub cross-lines : List ℕ
+  cross-lines = collar-line ++ (clears-line ++ fill-lines)
+
+-- an absent body has no orders
+abbrev pub orders-of : Session → List OrderTerms
+orders-of s = or-empty (s .resting)
+
+abbrev pub session-lines : Session → List ℕ
+session-lines s = read-line s ++ cross-lines (s .lastSale) (ranking-of (s .ranking)) (orders-of s)
+
+-- the file keeps the layout of this session and of no other, and the text tells what is in it
+pub record TellsSession (file text : List ℕ) (s : Session) : Type 0 where
+  pub no-cause : fault file ≡ None
+  pub keeps : KeepsLayout file s
+  pub only : (t : Session) → KeepsLayout file t → t ≡ s
+  pub told : text ≡ first-line ++ session-lines s
+
+-- the file is refused for this cause and keeps the layout of no session, and the text tells the cause
+pub record TellsCause (file text : List ℕ) (c : Cause) : Type 0 where
+  pub because : fault file ≡ Some c
+  pub breaks : (s : Session) → KeepsLayout file s → ⊥
+  pub told : text ≡ first-line ++ refused-line c
+
+-- a file is told by the session that it holds, or else by its one cause
+pub data Reports (file text : List ℕ) : Type 0 where
+  accepted : (s : Session) → TellsSession file text s → Reports file text
+  refused : (c : Cause) → TellsCause file text c → Reports file text

@@ -9,6 +9,7 @@ ghost use Rattle.session.specs.Reading.{Accepts, Reads, handed};
 ghost use Rattle.report.specs.Text.{Reports, first-line, read-line, refused-line};
 use book::Book;
 use market::refusal::Refusal;
+use session::file::LARGEST_FILE;
 use session::file::SessionFile;
 use session::file::read;
 use session::heading::Heading;
@@ -16,16 +17,20 @@ use session::resting::RestingBook;
 use std::alloc::AllocError;
 use std::alloc::Global;
 
+/// How much of an input the report needs: one byte more than the largest session file, so that longer input is refused
+/// as too large and endless input is not read on.
+pub const MOST_INPUT: u64 = LARGEST_FILE as u64 + 1;
+
+/// The first line of every report: the names of the columns.
+const FIRST_LINE: &str = "event,answer,price,shares\n";
+
 fn refused_text(heap: Global, refusal: Refusal) -> Result<String, AllocError>
     ensures { λ r. ⌜ made r (λ t. string-bytes t ≡ first-line ++ refused-line (cause refusal)) ⌝ }
 {
     let number = refusal.number();
     let layer = refusal.layer();
     let byte = refusal.byte();
-    format!(
-        heap,
-        "event,answer,price,shares\nrefused,{number},{layer},{byte}\n"
-    )
+    format!(heap, "{FIRST_LINE}refused,{number},{layer},{byte}\n")
 }
 
 fn accepted_text(
@@ -43,7 +48,7 @@ fn accepted_text(
     let ranking = heading.ranking;
     format!(
         heap,
-        "event,answer,price,shares\nread,{resting},{events},{note},{last_sale},{ranking}\n"
+        "{FIRST_LINE}read,{resting},{events},{note},{last_sale},{ranking}\n"
     )
 }
 

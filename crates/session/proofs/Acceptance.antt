@@ -1,19 +1,19 @@
 -- A file has no fault just if it is accepted: all that a fault could be is excluded.
-use mathlib.Core.Bool.{Bool, true, false, not, cond, _||_}
+use mathlib.Core.Bool.{true, false, not, _||_}
 use mathlib.Core.List.{List}
-use mathlib.Core.Path.{_≡_, refl, _∙_, ap}
-use Prim.Native.Nat.{ℕ, _+_, _≤_}
+use mathlib.Core.Path.{_≡_, _∙_, ap}
+use Prim.Native.Nat.{ℕ, _+_}
 use native.Mathlib.Omega.{arith}
-use lib.Dec.{leb, ltb, eqb}
+use lib.Dec.{ltb, eqb}
 use lib.ListN.{length}
-use Rattle.std.proofs.shelf.Tests.{cond-true, or-parts, not-false, ltb-false, eqb-true, eqb-false}
+use Rattle.std.proofs.shelf.Tests.{or-parts, not-false, ltb-false, eqb-true, eqb-false}
 use Rattle.std.proofs.shelf.Ways.{tells}
-use Rattle.std.specs.Options.{mapped}
 use Rattle.std.specs.declared.option.Option.{Option}
-use Rattle.std.specs.declared.option.Option.the-variants.{Some, None}
+use Rattle.std.specs.declared.option.Option.the-variants.{None}
 use Rattle.market.specs.Causes.{Cause, at}
 use Rattle.session.specs.declared.body.BodyKind.{BodyKind}
 use Rattle.session.specs.declared.body.BodyKind.the-variants.{Heading, Resting, Events, Note}
+use Rattle.session.specs.declared.body.Body.{Body}
 use Rattle.session.specs.Contents.{mask, present, told, contents, start, end, body}
 use Rattle.session.specs.Faults.{
   largest-file,
@@ -26,8 +26,10 @@ use Rattle.session.specs.Faults.{
   contents-fault,
   fault,
 }
+use Rattle.session.specs.FirstCauses.{Laid}
+use Rattle.session.specs.Handed.{bytes-of, kind-of}
 use Rattle.session.proofs.Bodies.{length-body}
-use Rattle.session.proofs.RecordLists.{or-none}
+use Rattle.session.proofs.Checks.{fault-if, fault-unless, mapped-none, or-none}
 
 -- ---- the first of several faults is none where each is
 
@@ -41,34 +43,12 @@ none-of f e kind =
 first-none : (f : BodyKind → Option Cause) → ((kind : BodyKind) → f kind ≡ None) → first-of f ≡ None
 first-none f e = simp (e Heading, e Resting, e Events, e Note)
 
-mapped-none : {X Y : Type 0} (f : X → Y) (o : Option X) → mapped f o ≡ None → o ≡ None
-mapped-none f None e = refl
-mapped-none f (Some x) e = cc
-
--- ---- a test that would give a fault has failed
-
-cond-none : {X : Type 0} (b : Bool) (x : X) (o : Option X) → cond b (Some x) o ≡ None → (b ≡ false) × (o ≡ None)
-cond-none true x o e = (cc, cc)
-cond-none false x o e = (refl, e)
-
-cond-some : {X : Type 0} (b : Bool) (x : X) → cond b None (Some x) ≡ None → b ≡ true
-cond-some true x e = refl
-cond-some false x e = cc
-
 -- ---- the first layer: the parts make up the file
-
-pub record Laid (file : List ℕ) : Type 0 where
-  pub small : length file ≤ largest-file
-  pub some : 1 ≤ length file
-  pub known : mask file ≤ 15
-  pub headed : present file Heading ≡ true
-  pub tabled : contents file ≤ length file
-  pub filled : end file ≡ length file
 
 pub laid : (file : List ℕ) → contents-fault file ≡ None → Laid file
 laid file e =
-    let sized = cond-none (eqb (length file) 0 || ltb largest-file (length file)) _ _ e in
-    let listed = cond-none (ltb 15 (mask file) || (not (present file Heading) || ltb (length file) (contents file))) _ _ (sized .1) in
+    let sized = fault-if (eqb (length file) 0 || ltb largest-file (length file)) _ _ e in
+    let listed = fault-if (ltb 15 (mask file) || (not (present file Heading) || ltb (length file) (contents file))) _ _ (sized .1) in
     let too-long = or-parts (eqb (length file) 0) (ltb largest-file (length file)) (sized .0) in
     let unlisted = or-parts (ltb 15 (mask file)) (not (present file Heading) || ltb (length file) (contents file)) (listed .0) in
     let unheaded = or-parts (not (present file Heading)) (ltb (length file) (contents file)) (unlisted .1) in
@@ -78,18 +58,18 @@ laid file e =
       known = ltb-false 15 (mask file) (unlisted .0);
       headed = not-false (present file Heading) (unheaded .0);
       tabled = ltb-false (length file) (contents file) (unheaded .1);
-      filled = eqb-true (end file) (length file) (cond-some (eqb (end file) (length file)) _ (listed .1));
+      filled = eqb-true (end file) (length file) (fault-unless (eqb (end file) (length file)) None _ (listed .1) .0);
     }
 
--- a body's length is told by the contents, so that it fits where the told one does
-pub fits-told : (file : List ℕ) (kind k : BodyKind) (bs : List ℕ) → contents-fault file ≡ None → k ≡ kind → bs ≡ body file kind
-    → fits k (length bs) ≡ fits kind (told file kind)
-fits-told file kind k bs e p q =
-    ap (λ j. fits j (length bs)) p
+-- a body that is handed out has the length that the contents tell, so that it fits where the told one does
+pub fits-told : (file : List ℕ) (kind : BodyKind) (b : Body) → contents-fault file ≡ None → kind-of b ≡ kind → bytes-of b ≡ body file kind
+    → fits (kind-of b) (length (bytes-of b)) ≡ fits kind (told file kind)
+fits-told file kind b e p q =
+    ap (λ j. fits j (length (bytes-of b))) p
     ∙ (ap (λ xs. fits kind (length xs)) q ∙ ap (fits kind) (length-body file kind (omega (arith, laid file e .filled))))
 
 pub fitting : (file : List ℕ) (kind : BodyKind) → wrong-length file kind ≡ None → fits kind (told file kind) ≡ true
-fitting file kind e = cond-some (fits kind (told file kind)) _ e
+fitting file kind e = fault-unless (fits kind (told file kind)) None _ e .0
 
 -- ---- all layers
 

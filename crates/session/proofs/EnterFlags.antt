@@ -2,11 +2,9 @@
 -- them, and those of an order are among them and read as this order.
 use mathlib.Core.Bool.{Bool, true, false, not, cond, _&&_}
 use mathlib.Core.Path.{_≡_, refl}
-use Prim.Native.Nat.{ℕ, zero, suc, _<_}
-use native.Mathlib.Omega.{arith}
+use Prim.Native.Nat.{ℕ}
 use lib.Dec.{leb, eqb}
 use Rattle.std.proofs.shelf.Tests.{false≢true, leb-true, eqb-true, and-parts}
-use Rattle.std.proofs.shelf.Ways.{decides-eqb, decides-below-and}
 use Rattle.market.specs.declared.order.Side.{Side}
 use Rattle.market.specs.declared.order.Side.the-variants.{Buy, Sell}
 use Rattle.market.specs.declared.order.OrderPrice.{OrderPrice}
@@ -16,24 +14,14 @@ use Rattle.market.specs.Orders.{lawful-limit}
 use Rattle.session.specs.declared.field.Values.the-variants.{Zero, Cents, EnterFlags}
 use Rattle.session.specs.Fields.{has, admits}
 use Rattle.session.specs.Records.{limit-number, flags, entered}
-
--- a test at each number below n
-every : (ℕ → Bool) → ℕ → Bool
-every f zero = true
-every f (suc n) = f n && every f n
+use Rattle.session.proofs.Sixteen.{at-each, every}
 
 -- the flags read and written again, computed at each of the sixteen
-flags-below : (entry limit shares : ℕ) (f : ℕ) → f < 16 → f ≡ flags (entered f entry limit shares)
-unfolding every
-flags-below e l n =
-    let again : ℕ → ℕ = λ f. flags (entered f e l n) in
-    let same : ℕ → Bool = λ f. eqb f (again f) in
-    decides-below-and same (λ f. f ≡ again f) (every same) (λ f. decides-eqb f (again f)) refl (λ _. refl) 16 .0 refl
-
 pub flags-again : (f entry limit shares : ℕ) → admits EnterFlags f ≡ true → f ≡ flags (entered f entry limit shares)
+unfolding every
 flags-again f e l n h =
     let small = leb-true f 15 (and-parts (leb f 15) _ h .0) in
-    flags-below e l n f (omega arith)
+    eqb-true f _ (at-each (λ m. eqb m (flags (entered m e l n))) refl f small)
 
 -- the limit read and written again
 pub limit-again : (market : Bool) (n : ℕ) → admits (cond market Zero Cents) n ≡ true
@@ -48,7 +36,7 @@ limit-lawful true stays n f a = f
 limit-lawful false stays n f a = a
 
 -- an order's flags and its limit are good, and they read as the order
-abbrev pub Reads : OrderTerms → Type 0
+abbrev Reads : OrderTerms → Type 0
 Reads o =
     (admits EnterFlags (flags o) ≡ true)
     × (admits (cond (has (flags o) 2) Zero Cents) (limit-number (o .price)) ≡ true)

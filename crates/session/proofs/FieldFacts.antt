@@ -1,18 +1,18 @@
 -- Fields and numbers that stand one after the other, each at its place counted from the record's first byte: what
 -- `first-bad` finds nothing in, and what `Written` says.
-use mathlib.Core.Bool.{Bool, true, false, cond}
+use mathlib.Core.Bool.{true}
 use mathlib.Core.List.{List, [], _∷_}
 use mathlib.Core.Path.{_≡_, refl}
 use Prim.Native.Nat.{ℕ, zero, suc, _+_}
 use native.Mathlib.Omega.{arith}
-use Rattle.std.specs.declared.option.Option.{Option}
-use Rattle.std.specs.declared.option.Option.the-variants.{Some, None}
+use Rattle.std.specs.declared.option.Option.the-variants.{None}
 use Rattle.session.specs.declared.field.Width.{Width}
 use Rattle.session.specs.declared.field.Field.{Field}
 use Rattle.session.specs.Fields.{value, size, admits, first-bad, Written}
+use Rattle.session.proofs.Checks.{fault-unless}
 
 -- k bytes after a byte, as the records' readings write it: no sum where k is 0
-abbrev pub place : (at k : ℕ) → ℕ
+abbrev place : (at k : ℕ) → ℕ
 place at zero = at
 place at (suc k) = at + suc k
 
@@ -34,14 +34,10 @@ abbrev pub Stands : List (Width × ℕ) → List ℕ → (at k : ℕ) → Type 0
 Stands [] bs at k = Unit {0}
 Stands (n ∷ ns) bs at k = (value (n .0) bs (place at k) ≡ n .1) × Stands ns bs at (k + size (n .0))
 
-cond-none : (t : Bool) (o : Option ℕ) (n : ℕ) → cond t o (Some n) ≡ None → (t ≡ true) × (o ≡ None)
-cond-none true o n e = (refl, e)
-cond-none false o n e = let z : _≡_ {A = ℕ} 0 1 = cc in absurd (omega arith)
-
 good-from : (fs : List Field) (bs : List ℕ) (at k : ℕ) → first-bad fs bs (place at k) ≡ None → Good fs bs at k
 good-from [] bs at k e = tt
 good-from (f ∷ fs) bs at k e =
-    let p = cond-none (admits (f .values) (value (f .width) bs (place at k))) _ _ e in
+    let p = fault-unless (admits (f .values) (value (f .width) bs (place at k))) _ _ e in
     (p .0, good-from fs bs at (k + size (f .width)) (rw (← place-more at k (size (f .width))) (p .1)))
 
 none-from : (fs : List Field) (bs : List ℕ) (at k : ℕ) → Good fs bs at k → first-bad fs bs (place at k) ≡ None

@@ -16,10 +16,11 @@ use Rattle.session.specs.Fields.{byte, four, Spells}
 use Rattle.session.specs.Records.{orders-in, events-in}
 use Rattle.session.specs.Contents.{mask, present, told, contents, body}
 use Rattle.session.specs.Faults.{fits, bad-field, fault}
+use Rattle.session.specs.FirstCauses.{Laid}
 use Rattle.session.specs.Layout.{Session, Body, RestingBody, EventsBody, NoteBody, KeepsLayout, session-of}
 use Rattle.session.proofs.Masks.{mask-made, Marked, marked}
 use Rattle.session.proofs.Bodies.{of-each, in-sequence, length-body, laid-out, parts, parts-fill}
-use Rattle.session.proofs.Acceptance.{Laid, Accepted, accepted, accepted-none}
+use Rattle.session.proofs.Acceptance.{Accepted, accepted, accepted-none}
 use Rattle.session.proofs.Tables.{
   Table,
   TableOf,
@@ -196,8 +197,9 @@ pub same-session : (s t : Session)
     → s ≡ t
 same-session s t l k r e n = λ i. record { lastSale = l i; ranking = k i; resting = r i; events = e i; note = n i }
 
--- a file that is laid out has no fault, and its bytes say the session
-pub layout-read : (file : List ℕ) (s : Session) → KeepsLayout file s → (fault file ≡ None) × (session-of file ≡ s)
+-- a file that is laid out has no fault, its bytes say the session, and its bodies are the layout's parts
+pub layout-read : (file : List ℕ) (s : Session) (k : KeepsLayout file s)
+    → (fault file ≡ None) × (session-of file ≡ s) × ((kind : BodyKind) → body file kind ≡ part-of file s k kind)
 layout-read file s k =
     let part : BodyKind → List ℕ = part-of file s k in
     let h = heading-read (s .lastSale) (s .ranking) (k .heading) (k .headed) in
@@ -231,4 +233,4 @@ layout-read file s k =
     (same-shown orders-in (f .0 .rested) (p Resting) ∙ r .same)
     (same-shown events-in (f .0 .timed) (p Events) ∙ e .same)
     (same-shown (λ bs. bs) (f .0 .noted) (p Note) ∙ n .same) in
-    (accepted-none file a, same)
+    (accepted-none file a, same, p)

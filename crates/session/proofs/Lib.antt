@@ -1,3 +1,5 @@
+pub mod Checks
+pub mod Sixteen
 pub mod FieldFacts
 pub mod FieldSteps
 pub mod RecordLists
@@ -11,6 +13,8 @@ pub mod Masks
 pub mod Bodies
 pub mod Tables
 pub mod Acceptance
+pub mod BadFields
 pub mod FaultPlaces
+pub mod FirstCauses
 pub mod LayoutTheorem
 pub mod Readings

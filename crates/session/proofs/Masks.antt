@@ -1,27 +1,17 @@
 -- What a mask of bodies says, where it is at most 15: tests that antt computes at each of the 16 masks, and a mask
 -- that is made of the presence of each body.
-use mathlib.Core.Bool.{Bool, true, false, not, cond, _&&_, _||_}
+use mathlib.Core.Bool.{Bool, true, false, not, cond, _||_}
 use mathlib.Core.Path.{_≡_, refl, ap}
-use Prim.Native.Nat.{ℕ, zero, suc, _+_, _*_, _≤_, _<_}
+use Prim.Native.Nat.{ℕ, _+_, _*_, _≤_, _<_}
 use native.Mathlib.Omega.{arith}
 use lib.Count.{ones, onesIn}
 use lib.Dec.{ltb, eqb}
-use Rattle.std.proofs.shelf.Ways.{tells, decides-below-and}
+use Rattle.std.proofs.shelf.Ways.{tells}
 use Rattle.session.specs.declared.body.BodyKind.{BodyKind}
 use Rattle.session.specs.declared.body.BodyKind.the-variants.{Heading, Resting, Events, Note}
 use Rattle.session.specs.Fields.{has}
 use Rattle.session.specs.Contents.{bit, rank}
-
--- a test holds at each number below n
-every : (ℕ → Bool) → ℕ → Bool
-every test zero = true
-every test (suc n) = test n && every test n
-
-at-mask : (test : ℕ → Bool) → every test 16 ≡ true → (m : ℕ) → m ≤ 15 → test m ≡ true
-unfolding every
-at-mask test e m h =
-    let holds : ℕ → Type 0 = λ k. test k ≡ true in
-    decides-below-and test holds (every test) (λ k. (λ t. t, λ t. t)) refl (λ _. refl) 16 .0 e m (omega arith)
+use Rattle.session.proofs.Sixteen.{at-each, every}
 
 -- ---- a body that is present comes after fewer bodies than there are
 
@@ -38,7 +28,7 @@ each-ranked Note = refl
 pub rank-below : (m : ℕ) (kind : BodyKind) → m ≤ 15 → has m (bit kind) ≡ true → rank m kind < ones m
 unfolding ranked
 rank-below m kind h e =
-    let t : ranked kind m ≡ true = at-mask (ranked kind) (each-ranked kind) m h in
+    let t : ranked kind m ≡ true = at-each (ranked kind) (each-ranked kind) m h in
     grind (arith, tells)
 
 -- ---- a mask with the bit of the heading, by the presence of each other body
@@ -56,7 +46,7 @@ each-made = refl
 pub mask-made : (m : ℕ) → m ≤ 15 → has m 1 ≡ true → m ≡ mask-of (has m 2) (has m 4) (has m 8)
 unfolding made
 mask-made m h e =
-    let t : made m ≡ true = at-mask made each-made m h in
+    let t : made m ≡ true = at-each made each-made m h in
     grind (arith, tells)
 
 -- how many bytes the contents have

@@ -37,7 +37,7 @@ use Rattle.session.specs.Layout.{RestingBody}
 use Rattle.session.proofs.FieldFacts.{Good, good, none-bad, written, stands}
 use Rattle.session.proofs.RecordLists.{records-kept, records-read}
 
-pub order-sound : (bs : List ℕ) (at : ℕ) → first-bad order-fields bs at ≡ None → Sound (order-at bs at)
+order-sound : (bs : List ℕ) (at : ℕ) → first-bad order-fields bs at ≡ None → Sound (order-at bs at)
 order-sound bs at e =
     let g = good order-fields bs at e in
     (g .1 .1 .1 .0, g .1 .1 .1 .1 .0, leb-true 1 _ (g .1 .1 .0))

@@ -7,8 +7,6 @@ use Prim.Native.Nat.{ℕ, _+_, _*_}
 use denote.Ref.{now}
 use lib.ListN.{length, take, drop}
 use Rattle.std.proofs.shelf.Tests.{eqb-true}
-use Rattle.std.specs.Options.{isSome}
-use Rattle.std.specs.declared.option.Option.{Option}
 use Rattle.std.specs.declared.option.Option.the-variants.{Some, None}
 use Rattle.market.specs.declared.refusal.Refusal.{Refusal}
 use Rattle.market.specs.Causes.{cause}
@@ -21,11 +19,12 @@ use Rattle.session.specs.declared.field.Values.the-variants.{Ranking}
 use Rattle.session.specs.Fields.{admits, byte, four, two}
 use Rattle.session.specs.Contents.{body, mask, present, rank, start}
 use Rattle.session.specs.Faults.{bad-field, fault, fits}
-use Rattle.session.specs.Layout.{KeepsLayout, Session, session-of}
+use Rattle.session.specs.Layout.{KeepsLayout, session-of}
 use Rattle.session.specs.Reading.{Accepts, Refuses, handed, if-present}
 use Rattle.session.specs.Records.{events-in, orders-in}
 use Rattle.session.proofs.Acceptance.{accepted}
 use Rattle.session.proofs.Bodies.{length-body}
+use Rattle.session.proofs.FirstCauses.{first-field, first-length}
 use Rattle.session.proofs.HeadingRecord.{heading-kept}
 use Rattle.session.proofs.LayoutTheorem.{layout-kept, layout-read, same-session}
 
@@ -43,9 +42,6 @@ pub heading-lawful : (file bs : List ℕ) → fault file ≡ None → bs ≡ bod
 heading-lawful file bs e q =
     let kept = heading-kept bs (eqb-true (length bs) 8 (body-fits file Heading bs e q)) (body-clean file Heading bs e q) in
     (kept .1, kept .2)
-
-pub none-some : {X : Type 0} (o : Option X) → o ≡ None → isSome o ≡ false
-none-some o e = ap isSome e
 
 if-present-same : {X : Type 0} (said : List ℕ → X) (kind : BodyKind) (file f bs : List ℕ) → f ≡ file → bs ≡ body file kind
     → if-present f kind (said bs) ≡ cond (present file kind) (Some (said (body file kind))) None
@@ -68,6 +64,9 @@ accepts file f h e p l k r v n =
       no-cause = e;
       keeps = subst (KeepsLayout file) (sym same) (layout-kept file e);
       only = λ s layout. sym (layout-read file s layout .1) ∙ sym same;
+      bodies = λ s layout.
+          let p = layout-read file s layout .2 in
+          (sym (p Heading), sym (p Resting), sym (p Events), sym (p Note));
       no-orders = λ absent. r ∙ absent-body file Resting absent;
       no-events = λ absent. v ∙ absent-body file Events absent;
       no-note = λ absent. n ∙ absent-body file Note absent;
@@ -78,6 +77,8 @@ pub refuses : (file : List ℕ) (f : SessionFile) (e : Refusal) → fault file �
     → Refuses file f e
 refuses file f e because r v n = record {
   because = because;
+  first-length = λ b is. first-length file b (because ∙ ap Some is);
+  first-field = λ b is. first-field file b (because ∙ ap Some is);
   breaks = λ s layout.
       let none : fault file ≡ None = layout-read file s layout .0 in
       let z : _≡_ {A = ℕ} 0 1 = cc in

@@ -7,16 +7,12 @@ use native.Mathlib.Nat.{mul-zero, mul-suc, mul-add, mul-one}
 use native.Mathlib.Omega.{arith}
 use lib.ListN.{length}
 use Rattle.std.specs.Iters.{counting}
-use Rattle.std.specs.declared.option.Option.{Option}
-use Rattle.std.specs.declared.option.Option.the-variants.{Some, None}
+use Rattle.std.specs.declared.option.Option.the-variants.{None}
 use Rattle.session.specs.declared.field.Field.{Field}
 use Rattle.session.specs.Fields.{first-bad}
 use Rattle.session.specs.Records.{Records}
-use Rattle.session.specs.Faults.{or-else, first-in}
-
-pub or-none : {X : Type 0} (a b : Option X) → or-else a b ≡ None → (a ≡ None) × (b ≡ None)
-or-none None b e = (refl, e)
-or-none (Some x) b e = let z : _≡_ {A = ℕ} 0 1 = cc in absurd (omega arith)
+use Rattle.session.specs.Faults.{first-in}
+use Rattle.session.proofs.Checks.{or-none}
 
 -- where the record after the a-th begins
 next : (size a at : ℕ) → at ≡ size * a → at + size ≡ size * (a + 1)

@@ -1,7 +1,11 @@
 -- The events of a session as plain values.
-use mathlib.Core.Bool.{Bool, true}
+use mathlib.Core.Bool.{true}
+use mathlib.Core.List.{List}
 use mathlib.Core.Path.{_≡_}
-use Prim.Native.Nat.{ℕ, _≤_}
+use Prim.Native.Nat.{ℕ, _<_, _≤_}
+use lib.ListN.{getD, length}
+use Rattle.std.specs.Options.{Cases}
+use Rattle.std.specs.declared.option.Option.{Option}
 use Rattle.market.specs.declared.order.OrderTerms.{OrderTerms}
 use Rattle.market.specs.Orders.{Sound, lawful-shares}
 use Rattle.market.specs.Ranges.{cents-of}
@@ -50,3 +54,10 @@ call-of Cross = cross
 
 abbrev pub timed : TimedEvent → Timed
 timed e = record { time = e .time; call = call-of (e .event) }
+
+-- the answer for a place of a list of events: none at or past its end, else the event that stands there, which is one
+-- that a file may hold
+abbrev pub AnswersEvent : List Timed → ℕ → Option TimedEvent → Type 0
+AnswersEvent es place r =
+    Cases r (length es ≤ place)
+    (λ e. (place < length es) × (timed e ≡ getD es place (timed e)) × SoundEvent (timed e))

@@ -1,6 +1,4 @@
 -- The orders of a resting body are few enough for a book.
-use mathlib.Core.Bool.{true}
-use mathlib.Core.Path.{_≡_}
 use Prim.Native.Nat.{_*_, _/_, _%_, _≤_}
 use native.Mathlib.Omega.{arith}
 use denote.Ref.{now}

@@ -4,6 +4,7 @@ pub mod Records
 pub mod Contents
 pub mod Handed
 pub mod Faults
+pub mod FirstCauses
 pub mod Layout
 pub mod Filed
 pub mod Reading

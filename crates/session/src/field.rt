@@ -8,7 +8,7 @@ pub(crate) use reading::two_at;
 
 /// How many bytes a number has, the most significant first.
 #[derive(Clone, Copy)]
-pub enum Width {
+pub(crate) enum Width {
     One,
     Two,
     Four,
@@ -16,7 +16,7 @@ pub enum Width {
 
 /// The values that a field may hold.
 #[derive(Clone, Copy)]
-pub enum Values {
+pub(crate) enum Values {
     /// 0 alone.
     Zero,
     /// 0 or 1.
@@ -39,9 +39,9 @@ pub enum Values {
     EnterFlags,
 }
 
-/// One field.
+/// A number of a record: its width, and the values that it may hold.
 #[derive(Clone, Copy)]
-pub struct Field {
-    pub width: Width,
-    pub values: Values,
+pub(crate) struct Field {
+    pub(crate) width: Width,
+    pub(crate) values: Values,
 }

@@ -15,8 +15,12 @@ mod reading;
 
 pub use reading::read;
 
-/// What a file was found to be: accepted, with its heading, or refused. A refused file has no orders, no events
-/// and no note; in an accepted one an absent body counts as empty.
+/// How many bytes a session file may have.
+pub const LARGEST_FILE: usize = 65_535;
+
+/// What `read` found a file to be. The type itself holds its values only to a verdict that accepts just the files without
+/// a cause of refusal; the rest is what `read` promises of the value that it returns: an accepted file's heading, orders,
+/// events and note are those of its bodies, an absent body counts as empty, and a refused file has none of them.
 #[derive(Clone, Copy)]
 pub struct SessionFile<'a> {
     pub file: &'a [u8],

@@ -14,7 +14,7 @@ pub(crate) const MOST_RESTING: usize = 256;
 
 /// The records that a body repeats.
 #[derive(Clone, Copy)]
-pub enum Record {
+pub(crate) enum Record {
     Order,
     Event,
 }

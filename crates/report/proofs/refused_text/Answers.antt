@@ -1,5 +1,5 @@
 -- The line has the refusal's number, layer and byte.
-use mathlib.Core.List.{[], _∷_, _++_}
+use mathlib.Core.List.{_++_}
 use mathlib.Core.Path.{_∙_, ap}
 use Rattle.market.specs.Causes.{at, cause}
 use Rattle.std.proofs.shelf.Results.{made-weaker}

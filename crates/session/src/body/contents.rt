@@ -1,21 +1,18 @@
 //! Layer 1: the contents, which say where each body lies.
 
 ghost use mathlib.Core.Path.{_≡_};
-ghost use Prim.Native.Nat.{_+_, _*_, _<_, _≤_};
+ghost use Prim.Native.Nat.{_≤_};
 ghost use lib.Count.{ones};
 ghost use lib.ListN.{length};
 ghost use Rattle.std.specs.Results.{Cases};
 ghost use Rattle.std.specs.declared.option.Option.the-variants.{Some, None};
 ghost use Rattle.market.specs.Causes.{cause};
-ghost use Rattle.session.specs.Contents.{bit, body, contents, end, mask, present, start, told};
+ghost use Rattle.session.specs.Contents.{bit, contents, mask, present, start, told};
 ghost use Rattle.session.specs.Faults.{contents-fault};
-ghost use Rattle.session.specs.Handed.{bytes-of, kind-of};
-use super::Body;
 use super::BodyKind;
 use crate::field::two_at;
+use crate::file::LARGEST_FILE;
 use market::refusal::Refusal;
-
-const LARGEST_FILE: usize = 65_535;
 
 const HIGHEST_MASK: u8 = 15;
 
@@ -60,7 +57,8 @@ pub(crate) fn told_length(file: &[u8], kind: BodyKind) -> usize
     two_at(file, 1 + 2 * before) as usize
 }
 
-/// Where a body begins.
+/// Where a body begins. The bound: contents of at most 17 bytes come before it, since a byte has at most eight ones, and
+/// at most three bodies of at most 65,535 bytes.
 pub(crate) fn start_of(file: &[u8], kind: BodyKind) -> usize
     requires { ⌜ mask (now file) ≤ 15 ⌝ ∗ ⌜ contents (now file) ≤ length (now file) ⌝ }
     ensures value { λ r. ⌜ r ≡ start (now (file .entry)) kind ⌝ }

@@ -1,7 +1,6 @@
 //! Layers 2 and 3: the lengths of the bodies, and their fields.
 
 ghost use mathlib.Core.Path.{_≡_};
-ghost use Prim.Native.Nat.{_+_, _≤_};
 ghost use lib.ListN.{length};
 ghost use Rattle.std.specs.Results.{Cases};
 ghost use Rattle.std.specs.declared.option.Option.the-variants.{Some, None};
@@ -68,19 +67,27 @@ impl<'a> Body<'a> {
     }
 }
 
-/// Layer 2 of one body.
+/// Whether the body of a kind has a length of this kind.
+fn length_fits(file: &[u8], kind: BodyKind) -> bool
+    requires { ⌜ contents-fault (now file) ≡ None ⌝ }
+    ensures { λ r. ⌜ r ≡ fits kind (told (now (file .entry)) kind) ⌝ }
+{
+    body_of(file, kind).fits()
+}
+
+/// Refuses a body whose length is none of its kind, by the byte where it begins.
 fn check_length(file: &[u8], kind: BodyKind) -> Result<(), Refusal>
     requires { ⌜ contents-fault (now file) ≡ None ⌝ }
     ensures { λ r. ⌜ Cases r (λ _. wrong-length (now (file .entry)) kind ≡ None) (λ e. wrong-length (now (file .entry)) kind ≡ Some (cause e)) ⌝ }
 {
-    if body_of(file, kind).fits() {
+    if length_fits(file, kind) {
         return Ok(());
     }
     Err(Refusal::BodyLength(start_of(file, kind) as u16))
 }
 
-/// Layer 3 of one body.
-fn check_body(file: &[u8], kind: BodyKind) -> Result<(), Refusal>
+/// Refuses a body with a field outside its values, by the first byte of the first such field.
+fn check_fields_of(file: &[u8], kind: BodyKind) -> Result<(), Refusal>
     requires { ⌜ contents-fault (now file) ≡ None ⌝ ∗ ⌜ wrong-length (now file) kind ≡ None ⌝ }
     ensures { λ r. ⌜ Cases r (λ _. wrong-field (now (file .entry)) kind ≡ None) (λ e. wrong-field (now (file .entry)) kind ≡ Some (cause e)) ⌝ }
 {
@@ -106,8 +113,8 @@ pub(crate) fn check_fields(file: &[u8]) -> Result<(), Refusal>
     requires { ⌜ contents-fault (now file) ≡ None ⌝ ∗ ⌜ first-of (wrong-length (now file)) ≡ None ⌝ }
     ensures { λ r. ⌜ Cases r (λ _. first-of (wrong-field (now (file .entry))) ≡ None) (λ e. first-of (wrong-field (now (file .entry))) ≡ Some (cause e)) ⌝ }
 {
-    check_body(file, BodyKind::Heading)?;
-    check_body(file, BodyKind::Resting)?;
-    check_body(file, BodyKind::Events)?;
-    check_body(file, BodyKind::Note)
+    check_fields_of(file, BodyKind::Heading)?;
+    check_fields_of(file, BodyKind::Resting)?;
+    check_fields_of(file, BodyKind::Events)?;
+    check_fields_of(file, BodyKind::Note)
 }

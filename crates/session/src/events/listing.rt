@@ -4,14 +4,13 @@ ghost use mathlib.Core.Bool.{true};
 ghost use mathlib.Core.Path.{_≡_};
 ghost use Prim.Native.Nat.{_+_, _<_, _≤_};
 ghost use lib.ListN.{getD, length};
-ghost use Rattle.std.specs.Options.{Cases as BySome};
 ghost use Rattle.std.specs.declared.option.Option.the-variants.{None};
 ghost use Rattle.session.specs.declared.field.Values.the-variants.{CentsOrNone};
 ghost use Rattle.market.specs.Ranges.{cents-of};
-ghost use Rattle.session.specs.Events.{timed};
-ghost use Rattle.session.specs.Fields.{admits, byte, first-bad};
+ghost use Rattle.session.specs.Events.{AnswersEvent, SoundEvent, timed};
+ghost use Rattle.session.specs.Fields.{admits, first-bad};
 ghost use Rattle.session.specs.Faults.{fields-of-event};
-ghost use Rattle.session.specs.Records.{call-with, entered, event-at, events-in};
+ghost use Rattle.session.specs.Records.{entered, event-at, events-in};
 use super::FiledEvents;
 use crate::event::Event;
 use crate::event::TimedEvent;
@@ -92,7 +91,8 @@ fn event_at(bytes: &[u8], at: usize) -> TimedEvent
 impl<'a> FiledEvents<'a> {
     fn filed(&self, place: usize) -> TimedEvent
         requires { ⌜ place < now self .count ⌝ }
-        ensures { λ r. ⌜ timed r ≡ getD (events-in (now (now (self .entry) .records))) place (timed r) ⌝ }
+        ensures listed { λ r. ⌜ timed r ≡ getD (events-in (now (now (self .entry) .records))) place (timed r) ⌝ }
+        ensures sound { λ r. ⌜ SoundEvent (timed r) ⌝ }
     {
         event_at(self.records, EVENT_SIZE * place)
     }
@@ -106,7 +106,7 @@ impl<'a> FiledEvents<'a> {
 
     /// The event at a place, counted from 0; none at or past the count.
     pub fn event(&self, place: usize) -> Option<TimedEvent>
-        ensures { λ r. ⌜ BySome r (length (events-in (now (now (self .entry) .records))) ≤ place) (λ e. (place < length (events-in (now (now (self .entry) .records)))) × (timed e ≡ getD (events-in (now (now (self .entry) .records))) place (timed e))) ⌝ }
+        ensures { λ r. ⌜ AnswersEvent (events-in (now (now (self .entry) .records))) place r ⌝ }
     {
         if place >= self.count {
             return None;

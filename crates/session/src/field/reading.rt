@@ -1,7 +1,7 @@
 //! Numbers read from bytes, and held to the values of their fields.
 
 ghost use mathlib.Core.Path.{_≡_};
-ghost use Prim.Native.Nat.{ℕ, _+_, _<_, _≤_, _^_};
+ghost use Prim.Native.Nat.{_+_, _≤_};
 ghost use lib.ListN.{length};
 ghost use Rattle.session.specs.Fields.{admits, first-bad, four, size, span, two, value};
 use super::Field;

@@ -1,10 +1,6 @@
 //! The tables of fields.
 
 ghost use mathlib.Core.Path.{_≡_};
-ghost use Prim.Native.Nat.{_+_, _<_, _≤_};
-ghost use lib.ListN.{length};
-ghost use Rattle.std.specs.declared.option.Option.the-variants.{Some, None};
-ghost use Rattle.session.specs.Fields.{first-bad};
 ghost use Rattle.session.specs.Records.{event-fields, heading-fields, order-fields};
 use crate::field::Field;
 use crate::field::Values;

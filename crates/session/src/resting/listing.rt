@@ -1,6 +1,5 @@
 //! The resting orders as a book.
 
-ghost use mathlib.Core.Bool.{true};
 ghost use mathlib.Core.Path.{_≡_};
 ghost use Prim.Native.Nat.{_+_, _<_, _≤_};
 ghost use denote.Ref.{now};

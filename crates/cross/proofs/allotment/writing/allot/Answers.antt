@@ -5,7 +5,7 @@ use native.Mathlib.Omega.{arith}
 use Prim.Native.Nat.{_+_, _-_, _≤_}
 use borrow.Author.Needs.{needs}
 use lib.ListN.{drop, length, take}
-use Rattle.std.proofs.shelf.Lists.{length-drop, take-rest}
+use Rattle.std.proofs.shelf.Lists.{append-assoc, length-drop, take-rest}
 use Rattle.market.specs.declared.order.Side.the-variants.{Buy, Sell}
 use Rattle.cross.specs.Allotments.{side-allotments}
 use Rattle.cross.specs.Fills.{fill}
@@ -50,4 +50,5 @@ returns g c =
     let long : length (side-allotments Buy os f (length os)) ≡ n = length-allotments Buy os f (length os) ∙ sym (c .write-side-buys .ensures .count) in
     let all : n + c .write-side .result ≡ length os = omega (arith, sides-all os, c .write-side-buys .ensures .count, c .write-side .ensures .count) in
     rear-written (side-allotments Buy os f (length os)) (side-allotments Sell os f (length os)) (c .args .list .now) l (c .write-side .last .list) n (length l - n) (c .write-side .result) long (c .write-side-buys .ensures .records) refl (c .write-side .ensures .records)
-    ∙ ap (λ m. side-allotments Buy os f (length os) ++ (side-allotments Sell os f (length os) ++ drop m (c .args .list .now))) all
+    ∙ (ap (λ m. side-allotments Buy os f (length os) ++ (side-allotments Sell os f (length os) ++ drop m (c .args .list .now))) all
+    ∙ sym (append-assoc (side-allotments Buy os f (length os)) (side-allotments Sell os f (length os)) (drop (length os) (c .args .list .now))))

@@ -7,7 +7,7 @@ use lib.ListN.{getD, drop}
 use Rattle.session.specs.declared.field.Field.{Field}
 use Rattle.session.specs.declared.field.Width.the-variants.{One}
 use Rattle.session.specs.declared.field.Values.the-variants.{Zero}
-use Rattle.session.specs.Fields.{admits, first-bad, size, value}
+use Rattle.session.specs.Fields.{admits, first-bad, value}
 use Rattle.session.proofs.FieldSteps.{first-bad-past, first-bad-here, first-bad-all, span-more}
 use Rattle.session.proofs.field.reading.first_bad_field.Needs as need
 

@@ -3,8 +3,9 @@ use mathlib.Core.Path.{refl, sym, _∙_, ap}
 use native.Mathlib.Omega.{arith}
 use Rattle.session.specs.declared.body.BodyKind.the-variants.{Resting, Events}
 use Rattle.session.specs.Fields.{byte, four}
+use Rattle.session.proofs.Checks.{none-some}
 use Rattle.session.proofs.FiledRecords.{length-events, length-orders}
-use Rattle.session.proofs.Readings.{accepts, body-clean, body-fits, heading-lawful, none-some}
+use Rattle.session.proofs.Readings.{accepts, body-clean, body-fits, heading-lawful}
 use Rattle.session.proofs.file.reading.accepted.Needs as need
 
 pub ghost-last-sale : need.ghost-last-sale
