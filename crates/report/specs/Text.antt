@@ -1,40 +1,34 @@
 -- What the report of a session file says.
-use mathlib.Core.Bool.{Bool, cond}
 use mathlib.Core.List.{List, [], _∷_, _++_}
 use mathlib.Core.Path.{_≡_}
 use Prim.Native.Nat.{ℕ}
 use lib.Chars.{codes}
-use lib.Dec.{eqb}
 use lib.ListN.{length}
-use Rattle.std.specs.Joined.{joined}
 use Rattle.std.specs.Written.{decimal}
 use Rattle.std.specs.declared.option.Option.{Option}
 use Rattle.std.specs.declared.option.Option.the-variants.{Some, None}
 use Rattle.market.specs.Causes.{Cause}
 use Rattle.market.specs.Ranges.{collar-highest, collar-lowest, twice-middle}
 use Rattle.market.specs.declared.order.OrderTerms.{OrderTerms}
-use Rattle.cross.specs.declared.allotment.Allotment.{Allotment}
-use Rattle.cross.specs.Allotments.{allotments}
 use Rattle.cross.specs.Clearing.{clearing-price}
-use Rattle.cross.specs.Crossing.{clearing-fills}
 use Rattle.cross.specs.Depth.{executed}
-use Rattle.cross.specs.Rankings.{by-display, by-shares}
 use Rattle.session.specs.Faults.{fault}
 use Rattle.session.specs.Layout.{KeepsLayout, Session}
 
--- decimal numbers with commas between them, and a line feed
-abbrev pub numbers : List ℕ → List ℕ
-numbers [] = 10 ∷ []
-numbers (n ∷ ns) = codes "," ++ (decimal n ++ numbers ns)
+-- decimal numbers, a comma before each, a line feed, and then the rest
+abbrev pub numbers : List ℕ → List ℕ → List ℕ
+numbers [] rest = 10 ∷ rest
+numbers (n ∷ ns) rest = codes "," ++ (decimal n ++ numbers ns rest)
 
-abbrev pub line : List ℕ → List ℕ → List ℕ
-line word ns = word ++ numbers ns
+-- a line of a word and numbers, and then the rest
+abbrev pub line : List ℕ → List ℕ → List ℕ → List ℕ
+line word ns rest = word ++ numbers ns rest
 
 abbrev pub first-line : List ℕ
 first-line = codes "event,answer,price,shares\n"
 
 abbrev pub refused-line : Cause → List ℕ
-refused-line c = line (codes "refused") (c .number ∷ c .layer ∷ c .byte ∷ [])
+refused-line c = line (codes "refused") (c .number ∷ c .layer ∷ c .byte ∷ []) []
 
 -- how many there are; an absent body counts as empty
 abbrev pub count : {X : Type 0} → Option (List X) → ℕ
@@ -45,48 +39,29 @@ abbrev pub or-empty : {X : Type 0} → Option (List X) → List X
 or-empty None = []
 or-empty (Some xs) = xs
 
--- resting orders, events, note bytes, last sale and ranking
-abbrev pub read-line : Session → List ℕ
-read-line s = line (codes "read") (count (s .resting) ∷ count (s .events) ∷ count (s .note) ∷ s .lastSale ∷ s .ranking ∷ [])
+-- the lines of an accepted file, by their numbers: what is in it, the collar of the last sale, and the price and the
+-- shares at which its resting orders would clear in that collar
+abbrev pub figures-text : (resting events note lastSale ranking low high price shares : ℕ) → List ℕ
+figures-text r e n l k lo hi p x =
+    line (codes "read") (r ∷ e ∷ n ∷ l ∷ k ∷ []) (line (codes "collar") (lo ∷ hi ∷ []) (line (codes "clears") (p ∷ x ∷ []) []))
 
--- the line of one record of an allotment list
-abbrev pub fill-line : Allotment → List ℕ
-fill-line a = line (codes "fill") (a .place ∷ a .fill ∷ [])
-
--- the ranking that a heading names
-abbrev pub ranking-of : ℕ → OrderTerms → OrderTerms → Bool
-ranking-of n = cond (eqb n 1) by-display by-shares
-
--- what the resting orders would do by themselves, in the collar of the last sale
-module _ (lastSale : ℕ) (good : OrderTerms → OrderTerms → Bool) (os : List OrderTerms) where
+-- the same of a last sale and a list of resting orders
+module _ (lastSale : ℕ) (os : List OrderTerms) where
   abbrev low : ℕ
   low = collar-lowest lastSale lastSale
 
   abbrev high : ℕ
   high = collar-highest lastSale lastSale
 
-  abbrev twice : ℕ
-  twice = twice-middle lastSale lastSale
+  abbrev clears-at : ℕ
+  clears-at = clearing-price low high (twice-middle lastSale lastSale) os
 
-  abbrev pub collar-line : List ℕ
-  collar-line = line (codes "collar") (low ∷ high ∷ [])
-
-  abbrev pub clears-line : List ℕ
-  clears-line = line (codes "clears") (clearing-price low high twice os ∷ executed low high os (clearing-price low high twice os) ∷ [])
-
-  -- the buys by rising place, and then the sells
-  abbrev pub fill-lines : List ℕ
-  fill-lines = joined fill-line (allotments os (clearing-fills low high good os twice))
-
-  abbrev pub cross-lines : List ℕ
-  cross-lines = collar-line ++ (clears-line ++ fill-lines)
-
--- an absent body has no orders
-abbrev pub orders-of : Session → List OrderTerms
-orders-of s = or-empty (s .resting)
+  abbrev pub priced-text : (resting events note ranking : ℕ) → List ℕ
+  priced-text r e n k = figures-text r e n lastSale k low high clears-at (executed low high os clears-at)
 
 abbrev pub session-lines : Session → List ℕ
-session-lines s = read-line s ++ cross-lines (s .lastSale) (ranking-of (s .ranking)) (orders-of s)
+session-lines s =
+    priced-text (s .lastSale) (or-empty (s .resting)) (count (s .resting)) (count (s .events)) (count (s .note)) (s .ranking)
 
 -- the file keeps the layout of this session and of no other, and the text tells what is in it
 pub record TellsSession (file text : List ℕ) (s : Session) : Type 0 where

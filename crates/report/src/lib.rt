@@ -6,7 +6,9 @@ ghost use Rattle.std.specs.Of.String.{string-bytes};
 ghost use Rattle.std.specs.Vec.{made};
 ghost use Rattle.market.specs.Causes.{cause};
 ghost use Rattle.session.specs.Reading.{Accepts, Reads, handed};
-ghost use Rattle.report.specs.Text.{Reports, first-line, read-line, refused-line};
+ghost use Rattle.report.specs.Text.{Reports, first-line, refused-line, session-lines};
+use crate::figures::Figures;
+use crate::figures::figures_text;
 use book::Book;
 use market::refusal::Refusal;
 use session::file::LARGEST_FILE;
@@ -17,12 +19,14 @@ use session::resting::RestingBook;
 use std::alloc::AllocError;
 use std::alloc::Global;
 
+mod figures;
+
 /// How much of an input the report needs: one byte more than the largest session file, so that longer input is refused
 /// as too large and endless input is not read on.
 pub const MOST_INPUT: u64 = LARGEST_FILE as u64 + 1;
 
 /// The first line of every report: the names of the columns.
-const FIRST_LINE: &str = "event,answer,price,shares\n";
+pub(crate) const FIRST_LINE: &str = "event,answer,price,shares\n";
 
 fn refused_text(heap: Global, refusal: Refusal) -> Result<String, AllocError>
     ensures { λ r. ⌜ made r (λ t. string-bytes t ≡ first-line ++ refused-line (cause refusal)) ⌝ }
@@ -39,16 +43,16 @@ fn accepted_text(
     heading: Heading,
 ) -> Result<String, AllocError>
     requires { ⌜ Accepts (now (now session .file)) (now session) heading ⌝ }
-    ensures { λ r. ⌜ made r (λ t. string-bytes t ≡ first-line ++ read-line (handed (now (session .entry)) heading)) ⌝ }
+    ensures { λ r. ⌜ made r (λ t. string-bytes t ≡ first-line ++ session-lines (handed (now (session .entry)) heading)) ⌝ }
 {
-    let resting = session.resting.count();
-    let events = session.events.count();
-    let note = session.note.len();
-    let last_sale = heading.last_sale.cents;
-    let ranking = heading.ranking;
-    format!(
+    let figures = Figures::of(&session.resting, heading.last_sale);
+    figures_text(
         heap,
-        "{FIRST_LINE}read,{resting},{events},{note},{last_sale},{ranking}\n"
+        session.resting.count(),
+        session.events.count(),
+        session.note.len(),
+        heading,
+        figures,
     )
 }
 

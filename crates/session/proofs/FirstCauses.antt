@@ -126,14 +126,14 @@ by-length : (file : List ℕ) (c : Cause) → contents-fault file ≡ None → f
 by-length file c laid-out e =
     let found = rw e at (lengths-find file) in
     let body-at = found .2 in
-    let length : FirstLength file (found .0) = record {
+    let one : FirstLength file (found .0) = record {
       parts = laid file laid-out;
       kind = body-at .0;
       begins = body-at .1 .0;
       wrong = body-at .1 .1;
       first = λ k bad. found .3 (start file k) (k, (refl, bad));
     } in
-    inr (inl (found .0, found .1, length))
+    inr (inl (found .0, found .1, one))
 
 by-field : (file : List ℕ) (c : Cause) → contents-fault file ≡ None → first-of (wrong-length file) ≡ None
     → first-of (wrong-field file) ≡ Some c → ByLayer file c
