@@ -5,15 +5,15 @@ ghost use mathlib.Core.Path.{_≡_};
 ghost use Rattle.std.specs.Of.String.{string-bytes};
 ghost use Rattle.std.specs.Vec.{made};
 ghost use Rattle.market.specs.Ranges.{collar-highest, collar-lowest, twice-middle};
-ghost use Rattle.cross.specs.Clearing.{clearing-price};
-ghost use Rattle.cross.specs.Depth.{executed};
 ghost use lib.Chars.{codes};
-ghost use Rattle.report.specs.Text.{figures-text, first-line, line};
+ghost use Prim.Native.Nat.{_≤_};
+ghost use lib.ListN.{length};
+ghost use Rattle.report.specs.Pricing.{Priced};
+ghost use Rattle.report.specs.Text.{figures-text, first-line, line, ranking-of};
 use crate::FIRST_LINE;
+use crate::pricing::cross_by;
 use book::Book;
-use cross::clearing::clearing_price;
-use cross::depth::Depth;
-use market::price::Price;
+use cross::allotment::Allotment;
 use market::range::PriceRange;
 use session::heading::Heading;
 use std::alloc::AllocError;
@@ -29,24 +29,26 @@ pub(crate) struct Figures {
 }
 
 impl Figures {
-    pub(crate) fn of<B: Book>(book: &B, last_sale: Price) -> Figures
-        ensures low { λ r. ⌜ r .low ≡ collar-lowest («last_sale» .cents) («last_sale» .cents) ⌝ }
-        ensures high { λ r. ⌜ r .high ≡ collar-highest («last_sale» .cents) («last_sale» .cents) ⌝ }
-        ensures price { λ r. ⌜ r .price ≡ clearing-price (r .low) (r .high) (twice-middle («last_sale» .cents) («last_sale» .cents)) (B·Book .orders (now (book .entry))) ⌝ }
-        ensures shares { λ r. ⌜ r .shares ≡ executed (r .low) (r .high) (B·Book .orders (now (book .entry))) (r .price) ⌝ }
+    /// Crosses the book in the collar of the last sale, by the heading's ranking, and writes the fills.
+    pub(crate) fn of<B: Book>(book: &B, heading: Heading, list: &mut [Allotment]) -> Figures
+        requires { ⌜ length (B·Book .orders (now book)) ≤ length (now list) ⌝ }
+        ensures low { λ r. ⌜ r .low ≡ collar-lowest (heading .«last_sale» .cents) (heading .«last_sale» .cents) ⌝ }
+        ensures high { λ r. ⌜ r .high ≡ collar-highest (heading .«last_sale» .cents) (heading .«last_sale» .cents) ⌝ }
+        ensures crossed { λ r. ⌜ Priced (r .low) (r .high) (ranking-of (heading .ranking)) (B·Book .orders (now (book .entry))) (twice-middle (heading .«last_sale» .cents) (heading .«last_sale» .cents)) (now (list .entry)) (now (list .exit)) (r .price) (r .shares) ⌝ }
     {
         let last = PriceRange {
-            lowest: last_sale,
-            highest: last_sale,
+            lowest: heading.last_sale,
+            highest: heading.last_sale,
         };
         let collar = last.collar();
-        let price = clearing_price(book, collar, last.twice_middle());
-        let depth = Depth::of(book, collar, price);
-        Figures {
-            low: collar.lowest.cents,
-            high: collar.highest.cents,
-            price: price.cents,
-            shares: depth.executed(),
+        match cross_by(heading.ranking, book, collar, last.twice_middle(), list) {
+            Ok(crossing) => Figures {
+                low: collar.lowest.cents,
+                high: collar.highest.cents,
+                price: crossing.price.cents,
+                shares: crossing.executed,
+            },
+            Err(_) => unreachable(),
         }
     }
 }
@@ -87,7 +89,7 @@ pub(crate) fn figures_text(
     heading: Heading,
     figures: Figures,
 ) -> Result<String, AllocError>
-    ensures { λ r. ⌜ made r (λ t. string-bytes t ≡ first-line ++ figures-text resting events note (heading .«last_sale» .cents) (heading .ranking) (figures .low) (figures .high) (figures .price) (figures .shares)) ⌝ }
+    ensures { λ r. ⌜ made r (λ t. string-bytes t ≡ first-line ++ figures-text resting events note (heading .«last_sale» .cents) (heading .ranking) (figures .low) (figures .high) (figures .price) (figures .shares) []) ⌝ }
 {
     let mut text = read_text(heap, resting, events, note, heading)?;
     let priced = priced_text(heap, figures)?;

@@ -9,7 +9,9 @@ ghost use Rattle.session.specs.Reading.{Accepts, Reads, handed};
 ghost use Rattle.report.specs.Text.{Reports, first-line, refused-line, session-lines};
 use crate::figures::Figures;
 use crate::figures::figures_text;
+use crate::fills::push_fills;
 use book::Book;
+use cross::allotment::Allotment;
 use market::refusal::Refusal;
 use session::file::LARGEST_FILE;
 use session::file::SessionFile;
@@ -20,10 +22,15 @@ use std::alloc::AllocError;
 use std::alloc::Global;
 
 mod figures;
+mod fills;
+mod pricing;
 
 /// How much of an input the report needs: one byte more than the largest session file, so that longer input is refused
 /// as too large and endless input is not read on.
 pub const MOST_INPUT: u64 = LARGEST_FILE as u64 + 1;
+
+/// The most orders that a resting body has.
+const MOST_RESTING: usize = 256;
 
 /// The first line of every report: the names of the columns.
 pub(crate) const FIRST_LINE: &str = "event,answer,price,shares\n";
@@ -45,15 +52,19 @@ fn accepted_text(
     requires { ⌜ Accepts (now (now session .file)) (now session) heading ⌝ }
     ensures { λ r. ⌜ made r (λ t. string-bytes t ≡ first-line ++ session-lines (handed (now (session .entry)) heading)) ⌝ }
 {
-    let figures = Figures::of(&session.resting, heading.last_sale);
-    figures_text(
+    let mut list = [Allotment { place: 0, fill: 0 }; MOST_RESTING];
+    let orders = session.resting.count();
+    let figures = Figures::of(&session.resting, heading, &mut list);
+    let mut text = figures_text(
         heap,
-        session.resting.count(),
+        orders,
         session.events.count(),
         session.note.len(),
         heading,
         figures,
-    )
+    )?;
+    push_fills(heap, &mut text, &list[0..orders])?;
+    Ok(text)
 }
 
 fn text_of(heap: Global, session: &SessionFile<'_>) -> Result<String, AllocError>

@@ -5,7 +5,7 @@ use Prim.Native.Nat.{ℕ}
 use lib.Chars.{codes}
 use Rattle.std.specs.Of.String.{string-bytes}
 use Rattle.report.specs.Text.{first-line, line}
-use Rattle.report.proofs.Lines.{line-then}
+use Rattle.report.proofs.Lines.{read-then}
 use Rattle.report.proofs.figures.figures_text.Needs as need
 
 pub returns : need.returns
@@ -16,4 +16,4 @@ returns c =
     c .in-Continue-push-str .ensures tt .bytes
     ∙ (ap (λ bs. string-bytes (c .in-Continue-text .text) ++ bs) (c .as-str .ensures .value ∙ c .in-Continue-priced .ensures tt)
     ∙ (ap (λ bs. bs ++ priced) (c .in-Continue-text .ensures tt)
-    ∙ line-then first-line (codes "read") (c .args .resting ∷ c .args .events ∷ c .args .note ∷ h .«last_sale» .cents ∷ h .ranking ∷ []) priced))
+    ∙ read-then (c .args .resting ∷ c .args .events ∷ c .args .note ∷ h .«last_sale» .cents ∷ h .ranking ∷ []) priced))
