@@ -3,8 +3,8 @@ use mathlib.Core.List.{List, _++_}
 use mathlib.Core.Path.{_≡_, sym, _∙_, ap}
 use native.Mathlib.Omega.{arith}
 use Prim.Native.Nat.{ℕ, _-_, _<_, _≤_, min, _+_}
-use lib.ListN.{getD, length, take}
-use Rattle.std.proofs.shelf.Lists.{getD-append-left, getD-append-right, getD-default, getD-map, getD-take, length-append, length-map, length-take}
+use lib.ListN.{length}
+use Rattle.std.proofs.shelf.Lists.{getD-append-left, getD-append-right, getD-map, getD-take, length-append, length-map, length-take}
 use Rattle.std.specs.declared.option.Option.{Option}
 use Rattle.std.specs.declared.option.Option.the-variants.{Some, None}
 use Rattle.market.specs.declared.order.OrderTerms.{OrderTerms}

@@ -1,8 +1,7 @@
 -- The lists of books over books.
 use mathlib.Core.List.{List, _++_, map}
-use mathlib.Core.Path.{_≡_}
 use native.Mathlib.Omega.{arith}
-use Prim.Native.Nat.{ℕ, _≤_, min}
+use Prim.Native.Nat.{ℕ, _≤_}
 use lib.ListN.{length, take}
 use Rattle.std.proofs.shelf.Lists.{length-map, length-take}
 use Rattle.market.specs.declared.order.OrderTerms.{OrderTerms}

@@ -1,19 +1,18 @@
 -- The shares ahead of a place, summed a place at a time.
-use mathlib.Core.Bool.{Bool, true, false, cond, not, _&&_, _||_}
+use mathlib.Core.Bool.{Bool, cond, not, _&&_, _||_}
 use mathlib.Core.List.{List}
-use mathlib.Core.Path.{_≡_, refl, sym, _∙_, ap}
+use mathlib.Core.Path.{_≡_, _∙_, ap}
 use native.Mathlib.Numerals.{add-one}
 use native.Mathlib.Omega.{arith}
 use Prim.Native.Nat.{ℕ, zero, suc, _+_, _*_, _<_, _≤_}
 use lib.Dec.{ltb}
 use lib.ListN.{getD, length}
 use Rattle.std.proofs.shelf.Lists.{getD-read}
-use Rattle.std.proofs.shelf.Ways.{tells}
 use Rattle.std.specs.Iters.{counting, folded}
 use Rattle.std.specs.shelf.Lists.{sumBy}
 use Rattle.market.specs.declared.order.OrderTerms.{OrderTerms}
 use Rattle.market.specs.Orders.{Sound}
-use Rattle.cross.specs.Fills.{ahead, at-place, no-order, shares-ahead, willing}
+use Rattle.cross.specs.Fills.{at-place, no-order, willing}
 use Rattle.cross.proofs.PassSteps.{at-most-shares, shares-small}
 
 fold-more : (f : ℕ → ℕ) (a n m : ℕ) → folded (λ s i. s + f i) m (counting a (suc n)) ≡ folded (λ s i. s + f i) m (counting a n) + f (a + n)

@@ -1,10 +1,10 @@
 -- Where the search ends is the clearing price, on each of its three ways.
-use mathlib.Core.Bool.{true, false}
+use mathlib.Core.Bool.{true}
 use mathlib.Core.List.{List}
 use mathlib.Core.Logic.{inl, inr}
 use mathlib.Core.Path.{_≡_, sym, _∙_, ap}
 use native.Mathlib.Omega.{arith}
-use Prim.Native.Nat.{ℕ, _+_, _-_, _<_, _≤_}
+use Prim.Native.Nat.{ℕ, _+_, _-_, _≤_}
 use Rattle.std.proofs.shelf.Tests.{leb-false, leb-true, le-leb}
 use Rattle.market.specs.declared.order.Side.the-variants.{Buy, Sell}
 use Rattle.market.specs.declared.order.OrderTerms.{OrderTerms}

@@ -1,5 +1,5 @@
 -- The clearing price: the price of a range that is found in three steps.
-use mathlib.Core.Bool.{Bool, cond, _&&_}
+use mathlib.Core.Bool.{cond, _&&_}
 use mathlib.Core.List.{List, [], _∷_}
 use Prim.Native.Nat.{ℕ, suc, _+_, _-_, _*_, max}
 use lib.Dec.{leb, ltb, eqb}

@@ -3,7 +3,6 @@ use mathlib.Core.Bool.{Bool, true, false, cond, _&&_}
 use mathlib.Core.List.{List}
 use Prim.Native.Nat.{ℕ, min}
 use lib.Dec.{leb, ltb}
-use lib.IntN.{ℤ, pos, _-ℤ_}
 use Rattle.std.specs.shelf.Lists.{sumBy}
 use Rattle.market.specs.declared.order.Side.{Side}
 use Rattle.market.specs.declared.order.Side.the-variants.{Buy, Sell}
@@ -44,10 +43,6 @@ module _ (lowest highest : ℕ) where
   -- E(p)
   abbrev pub executed : List OrderTerms → ℕ → ℕ
   executed os p = min (bought os p) (sold os p)
-
-  -- B(p) less S(p)
-  abbrev pub imbalance : List OrderTerms → ℕ → ℤ
-  imbalance os p = pos (bought os p) -ℤ pos (sold os p)
 
   -- the better-priced shares: buys counted above p, and sells counted below it
   abbrev pub bought-above : List OrderTerms → ℕ → ℕ

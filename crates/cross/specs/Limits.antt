@@ -1,9 +1,7 @@
 -- The shares of a list of orders at a price, by their limits: what one pass over a book in a range sums.
-use mathlib.Core.Bool.{Bool, cond, _&&_}
-use mathlib.Core.List.{List}
+use mathlib.Core.Bool.{cond, _&&_}
 use Prim.Native.Nat.{ℕ}
 use lib.Dec.{leb, ltb}
-use Rattle.std.specs.shelf.Lists.{sumBy}
 use Rattle.market.specs.declared.order.OrderPrice.{OrderPrice}
 use Rattle.market.specs.declared.order.OrderPrice.the-variants.{Market, Limit}
 use Rattle.market.specs.declared.order.OrderTerms.{OrderTerms}

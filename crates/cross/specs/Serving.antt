@@ -1,5 +1,5 @@
 -- Whether the better-priced shares of a side find as many on the other side, and where a search for that ends.
-use mathlib.Core.Bool.{Bool, true, false}
+use mathlib.Core.Bool.{Bool, false}
 use mathlib.Core.List.{List}
 use mathlib.Core.Logic.{_⊎_}
 use mathlib.Core.Path.{_≡_}

@@ -2,9 +2,8 @@
 
 ghost use mathlib.Core.Bool.{cond, not, _&&_, _||_};
 ghost use mathlib.Core.Path.{_≡_};
-ghost use Prim.Native.Nat.{_<_, _≤_};
+ghost use Prim.Native.Nat.{_<_};
 ghost use lib.Dec.{ltb};
-ghost use lib.ListN.{length};
 ghost use Rattle.cross.specs.Fills.{at-place, fill, shares-ahead, willing};
 use crate::ranking::Ranking;
 use crate::ranking::is_same_side;

@@ -2,7 +2,7 @@
 
 ghost use mathlib.Core.List.{_++_};
 ghost use mathlib.Core.Path.{_≡_};
-ghost use Prim.Native.Nat.{_+_, _<_, _≤_};
+ghost use Prim.Native.Nat.{_≤_};
 ghost use lib.ListN.{drop, length};
 ghost use Rattle.cross.specs.Allotments.{allotted, side-allotments, side-places};
 ghost use Rattle.cross.specs.Fills.{fill};

@@ -1,7 +1,7 @@
 //! One pass over a book.
 
 ghost use mathlib.Core.Path.{_≡_};
-ghost use Prim.Native.Nat.{_+_, _*_, _<_, _≤_};
+ghost use Prim.Native.Nat.{_+_, _<_};
 ghost use Rattle.cross.specs.Limits.{buy-shares, buy-shares-above, sell-shares, sell-shares-below};
 ghost use Rattle.cross.specs.Passes.{depth-by-limits};
 use super::Depth;

@@ -1,7 +1,7 @@
 -- What is counted, priced and written is what the session says.
 use mathlib.Core.Bool.{Bool, true, false, cond}
 use mathlib.Core.List.{List, [], _++_}
-use mathlib.Core.Path.{_≡_, refl, sym, _∙_, ap}
+use mathlib.Core.Path.{_≡_, refl, _∙_, ap}
 use native.Mathlib.Omega.{arith}
 use Prim.Native.Nat.{ℕ, _-_}
 use lib.ListN.{drop, length, take}
@@ -19,7 +19,6 @@ use Rattle.cross.proofs.Allotting.{length-allotments, sides-all}
 use Rattle.market.specs.declared.order.Side.the-variants.{Buy, Sell}
 use Rattle.cross.specs.Depth.{executed}
 use Rattle.session.specs.Contents.{present}
-use Rattle.session.specs.Events.{Timed}
 use Rattle.session.specs.Reading.{handed}
 use Rattle.session.specs.Records.{events-in, orders-in}
 use Rattle.session.specs.declared.body.BodyKind.the-variants.{Resting, Events, Note}

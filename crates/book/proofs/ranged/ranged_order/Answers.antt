@@ -1,6 +1,5 @@
 -- An order is answered counted, and none stays none.
 use mathlib.Core.Path.{subst}
-use Rattle.std.specs.declared.option.Option.the-variants.{None}
 use Rattle.book.specs.Answers.{AnswersAt}
 use Rattle.book.proofs.Layers.{ranged-none, ranged-some}
 use Rattle.book.proofs.ranged.ranged_order.Needs as need

@@ -1,5 +1,5 @@
 -- The three ways of the search.
-use mathlib.Core.Bool.{true, false}
+use mathlib.Core.Bool.{true}
 use mathlib.Core.Path.{_≡_, sym, _∙_, ap, subst}
 use native.Mathlib.Omega.{arith}
 use Rattle.market.specs.declared.order.Side.the-variants.{Buy, Sell}

@@ -1,11 +1,10 @@
 -- The pass over the places, a place at a time.
-use mathlib.Core.Path.{_≡_, sym, _∙_, ap, subst}
+use mathlib.Core.Path.{_≡_, sym, subst}
 use native.Mathlib.Omega.{arith}
 use Prim.Native.Nat.{ℕ, _+_, _*_, _≤_}
-use lib.ListN.{length}
 use Rattle.std.specs.Iters.{counting}
 use Rattle.std.specs.shelf.Lists.{sumBy}
-use Rattle.cross.specs.Fills.{at-place, shares-ahead}
+use Rattle.cross.specs.Fills.{at-place}
 use Rattle.cross.proofs.AheadSteps.{ahead-more, ahead-of, found-at}
 use Rattle.cross.proofs.fills.shares_before.Needs as need
 use Rattle.cross.proofs.fills.shares_before.Needs.{in-Some, in-rest}

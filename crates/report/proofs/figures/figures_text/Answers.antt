@@ -1,10 +1,10 @@
 -- The lines of the prices stand behind the line of what was read.
 use mathlib.Core.List.{List, [], _∷_, _++_}
-use mathlib.Core.Path.{_≡_, _∙_, ap}
+use mathlib.Core.Path.{_∙_, ap}
 use Prim.Native.Nat.{ℕ}
 use lib.Chars.{codes}
 use Rattle.std.specs.Of.String.{string-bytes}
-use Rattle.report.specs.Text.{first-line, line}
+use Rattle.report.specs.Text.{line}
 use Rattle.report.proofs.Lines.{read-then}
 use Rattle.report.proofs.figures.figures_text.Needs as need
 

@@ -1,11 +1,10 @@
 -- One line more behind the text, and at the end all of them.
-use mathlib.Core.List.{[], _∷_, _++_}
-use mathlib.Core.Path.{_≡_, sym, _∙_, ap}
+use mathlib.Core.List.{_++_}
+use mathlib.Core.Path.{sym, _∙_, ap}
 use native.Mathlib.Omega.{arith}
 use Prim.Native.Nat.{_<_}
 use lib.ListN.{getD, length, take}
 use Rattle.std.proofs.shelf.Lists.{joined-more, take-all, take-more}
-use Rattle.std.proofs.shelf.Parts.{pushed}
 use Rattle.std.specs.Joined.{joined}
 use Rattle.std.specs.Of.String.{string-bytes}
 use Rattle.cross.specs.declared.allotment.Allotment.{Allotment}

@@ -1,13 +1,10 @@
 -- The records of a side, a place at a time.
-use mathlib.Core.Bool.{true, false}
-use mathlib.Core.List.{List, _++_}
+use mathlib.Core.Bool.{true}
 use mathlib.Core.Path.{_≡_, sym, _∙_, ap}
 use native.Mathlib.Omega.{arith}
-use Prim.Native.Nat.{ℕ, _+_, _<_, _≤_}
-use lib.ListN.{drop, length, set}
+use Prim.Native.Nat.{_<_, _≤_}
+use lib.ListN.{length}
 use Rattle.market.specs.declared.order.OrderTerms.{OrderTerms}
-use Rattle.cross.specs.declared.allotment.Allotment.{Allotment}
-use Rattle.cross.specs.Allotments.{allotment, side-allotments, side-places}
 use Rattle.cross.specs.Fills.{at-place, fill}
 use Rattle.cross.specs.Rankings.{same-side}
 use Rattle.cross.proofs.Allotting.{places-within, room, writes-none, writes-one}

@@ -1,5 +1,5 @@
 -- The price, the shares and the fills are those of the definitions, of which the theorem holds.
-use mathlib.Core.Path.{_≡_, sym, _∙_, ap}
+use mathlib.Core.Path.{_≡_, _∙_, ap}
 use Prim.Native.Nat.{min}
 use Rattle.cross.specs.declared.depth.Depth.{Depth}
 use Rattle.cross.specs.Allotments.{allotted}

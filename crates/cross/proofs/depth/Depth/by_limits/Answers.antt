@@ -1,8 +1,8 @@
 -- The pass, an order at a time.
 use mathlib.Core.Path.{_≡_, sym, subst}
 use native.Mathlib.Omega.{arith}
-use Prim.Native.Nat.{_+_, _<_}
-use lib.ListN.{length, take}
+use Prim.Native.Nat.{_+_}
+use lib.ListN.{take}
 use Rattle.cross.specs.declared.depth.Depth.{Depth}
 use Rattle.cross.specs.Passes.{depth-by-limits}
 use Rattle.cross.proofs.PassSteps.{Adds, Small, pass-all, pass-more}
