@@ -43,6 +43,8 @@
 //!
 //! `table.py` beside this folder writes the table, `stdin`, and what is to be printed, `stdout`, by rules of its own.
 
+#![tactic(auto)]
+
 mod answer;
 mod pricing;
 mod reporting;

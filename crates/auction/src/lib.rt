@@ -3,6 +3,8 @@
 //! Each call is refused by the first cause that applies, and then changes nothing; or it answers, and leaves stage, book and
 //! allotment list, as its definition says.
 
+#![tactic(auto)]
+
 pub mod answer;
 pub mod book;
 pub mod schedule;

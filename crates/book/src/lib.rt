@@ -1,5 +1,7 @@
 //! Books: lists of orders that answer how many they have, and which one stands at a place.
 
+#![tactic(auto)]
+
 ghost use Rattle.std.specs.Prelude.{◌≡◌, ◌≤◌, List, length};
 ghost use Rattle.market.specs.declared.order.OrderTerms.{OrderTerms};
 ghost use Rattle.book.specs.Answers.{AnswersAt};

@@ -1,5 +1,7 @@
 //! The cross of a book: the clearing price in a range, and the shares at a price.
 
+#![tactic(auto)]
+
 pub mod allotment;
 pub mod clearing;
 pub mod crossing;

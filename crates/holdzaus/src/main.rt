@@ -1,5 +1,7 @@
 //! Holdzaus: a session file on standard input, the report of its opening auction on standard output.
 
+#![tactic(auto)]
+
 use report::{MOST_INPUT, report};
 use std::io;
 use std::io::Read;

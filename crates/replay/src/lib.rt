@@ -1,6 +1,8 @@
 //! A list of timed calls on one auction: `replay` starts it and performs them, and its contract says what the product
 //! promises of a run as a whole.
 
+#![tactic(auto)]
+
 pub mod answer;
 mod held;
 mod performing;

@@ -1,6 +1,8 @@
 //! The report of a session file, as text: its events are run on the auction of its last sale, and each is told with its
 //! answer; a file that breaks the layout is told by its one cause.
 
+#![tactic(auto)]
+
 ghost use Rattle.std.specs.Prelude.{◌≡◌, ◌++◌, IfOk, string_bytes, OnOk};
 ghost use Rattle.market.specs.Causes.{cause};
 ghost use Rattle.session.specs.Reading.{Accepts, Reads, handed};

@@ -3,6 +3,8 @@
 //! `read` accepts exactly the files that keep the layout, and hands out what they hold without copying it; any
 //! other file is refused by one number, with the layer and the byte of the cause.
 
+#![tactic(auto)]
+
 pub mod body;
 pub mod events;
 mod field;

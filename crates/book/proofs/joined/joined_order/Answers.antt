@@ -3,8 +3,8 @@ use Rattle.std.proofs.Common.{sym, arith}
 use Rattle.book.proofs.Layers.{joined_first, joined_second, length_joined}
 use Rattle.book.proofs.joined.joined_order.Goals as goal
 
-pub returns-then-place-ge-MOST-ORDERS : goal.returns-then-place-ge-MOST-ORDERS
-returns-then-place-ge-MOST-ORDERS g c = omega (arith, length_joined (g.A.Book.orders c.args.first.now) (g.B.Book.orders c.args.second.now))
+pub returns-then-place-ge-MOST_ORDERS : goal.returns-then-place-ge-MOST_ORDERS
+returns-then-place-ge-MOST_ORDERS g c = omega (arith, length_joined (g.A.Book.orders c.args.first.now) (g.B.Book.orders c.args.second.now))
 
 pub returns-then-place-before : goal.returns-then-place-before
 returns-then-place-before g c =
