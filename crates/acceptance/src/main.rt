@@ -7,7 +7,6 @@
 //!     NAME price LOW HIGH TWICE BYTES                   prices the resting orders of a file in a range
 //!     NAME joined price LOW HIGH TWICE BYTES BYTES2     likewise those of two files, one after the other
 //!     NAME collar BID OFFER LASTSALE                    makes the ranges of a quote and a last sale
-//!     NAME report BYTES                                 runs the session of a file and reports it
 //!
 //! BYTES are runs, with ';' between them: a run is pairs of hex digits in lower case, one pair to a byte, and stands
 //! as often as the number after a '*' says, once if there is none. So `0102;00*3;0a0b*2` is the file of the bytes
@@ -17,10 +16,10 @@
 //! LOW and HIGH are the ends of the range and TWICE is twice the tie-breaker; BID, OFFER and LASTSALE are prices, and
 //! a BID or an OFFER of 0 is none. All are decimal numbers below 2^32, and prices are in cents.
 //!
-//! For a refused file that is read or priced the line `NAME refused,NUMBER,LAYER,BYTE` is printed, of two files for the
-//! first such one. For an accepted one that is read `NAME read,LASTSALE,RANKING,ORDERS,EVENTS,NOTEBYTES`, where the last
-//! three are counts, and then a line for each resting order and a line for each event, of more than sixteen only the
-//! first eight and the last eight:
+//! For a refused file the line `NAME refused,NUMBER,LAYER,BYTE` is printed, of two files for the first such one. For
+//! an accepted one that is read `NAME read,LASTSALE,RANKING,ORDERS,EVENTS,NOTEBYTES`, where the last three are counts,
+//! and then a line for each resting order and a line for each event, of more than sixteen only the first eight and the
+//! last eight:
 //!
 //!     order,PLACE,SIDE,LIMIT,SHARES,ENTRY,DISPLAYED,STAYS
 //!     event,PLACE,TIME,enter,SIDE,LIMIT,SHARES,ENTRY,DISPLAYED,STAYS
@@ -37,8 +36,6 @@
 //! Where LOW, HIGH or a price of the quote is no price, or LOW is above HIGH, `NAME refused,5,0,0` is printed, unless a
 //! file is refused.
 //!
-//! A session that is reported prints `NAME` alone and then the lines of its report, also where the file is refused.
-//!
 //! A line that is not of these forms prints `NAME unreadable`.
 //!
 //! `table.py` beside this folder writes the table, `stdin`, and what is to be printed, `stdout`, by rules of its own.
@@ -47,7 +44,6 @@
 
 mod answer;
 mod pricing;
-mod reporting;
 mod shown;
 mod table;
 
@@ -70,7 +66,6 @@ fn judge(rt: &HostRuntime, line: &str) -> io::Result<()> {
             second.as_slice(),
         ),
         Some(Asked::Collar(quoted)) => pricing::print_collar(rt, name, *quoted),
-        Some(Asked::Report(file)) => reporting::print(rt, name, file.as_slice()),
         None => println!(rt; "{name} unreadable"),
     }
 }

@@ -2,9 +2,9 @@
 
 ghost use Rattle.std.specs.Prelude.{◌≡◌, if◌then◌else◌};
 
-use market::event::Event;
 use market::order::{OrderPrice, OrderTerms, Side};
 use market::price::Price;
+use session::event::Event;
 use std::fmt;
 
 /// 1 for true and 0 for false.

@@ -92,8 +92,6 @@ pub(crate) enum Asked {
     Joined(Bounds, Vec<u8>, Vec<u8>),
     /// To make the ranges of a quote.
     Collar(Quoted),
-    /// To run the session of a file and report it.
-    Report(Vec<u8>),
 }
 
 /// Three numbers with a space after each, and the text after them.
@@ -147,7 +145,6 @@ fn asked_of(heap: Global, text: &str) -> Option<Asked> {
         Some(("price", words)) => price_of(heap, words),
         Some(("joined", words)) => joined_of(heap, words),
         Some(("collar", words)) => collar_of(words),
-        Some(("report", words)) => Some(Asked::Report(bytes_of(heap, words)?)),
         Some(_) => None,
     }
 }

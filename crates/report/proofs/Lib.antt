@@ -1,4 +1,1 @@
-pub mod Digits
-pub mod AnswerLines
-pub mod SessionSteps
-pub mod RunLines
+pub mod Lines

@@ -1,5 +1,2 @@
-pub mod Answers
-pub mod Decimals
-pub mod Lines
-pub mod Sessions
+pub mod Pricing
 pub mod Text

@@ -1,22 +1,79 @@
 -- What the report of a session file says.
-use Rattle.std.specs.Prelude.{◌≡◌, ℕ, List, [], ◌∷◌, ◌++◌, pos, Some, None, codes}
+use Rattle.std.specs.Prelude.{◌≡◌, ℕ, Bool, cond, List, [], ◌∷◌, ◌++◌, length, Some, None, codes, decimal, Option, ◌==◌}
+use Rattle.std.specs.List.{flat_map}
 use Rattle.market.specs.Causes.{Cause}
+use Rattle.market.specs.Ranges.{collar_highest, collar_lowest, twice_middle}
+use Rattle.market.specs.declared.order.OrderTerms.{OrderTerms}
+use Rattle.cross.specs.declared.allotment.Allotment.{Allotment}
+use Rattle.cross.specs.Allotments.{allotments}
+use Rattle.cross.specs.Clearing.{clearing_price}
+use Rattle.cross.specs.Crossing.{clearing_fills}
+use Rattle.cross.specs.Depth.{executed}
+use Rattle.cross.specs.Rankings.{by_display, by_shares}
 use Rattle.session.specs.Faults.{fault}
 use Rattle.session.specs.Layout.{KeepsLayout, Session}
-use Rattle.report.specs.Answers.{run_lines}
-use Rattle.report.specs.Lines.{line}
-use Rattle.report.specs.Sessions.{ranking_of, session_calls, session_state}
+
+-- decimal numbers, a comma before each, a line feed, and then the rest
+abbrev pub numbers : List ℕ → List ℕ → List ℕ
+numbers [] rest = 10 ∷ rest
+numbers (n ∷ ns) rest = codes "," ++ (decimal n ++ numbers ns rest)
+
+-- a line of a word and numbers, and then the rest
+abbrev pub line : List ℕ → List ℕ → List ℕ → List ℕ
+line word ns rest = word ++ numbers ns rest
 
 abbrev pub first_line : List ℕ
 first_line = codes "event,answer,price,shares\n"
 
 abbrev pub refused_line : Cause → List ℕ
-refused_line c = line (codes "refused") (pos c.number ∷ pos c.layer ∷ pos c.byte ∷ [])
+refused_line c = line (codes "refused") (c.number ∷ c.layer ∷ c.byte ∷ []) []
+
+-- how many there are; an absent body counts as empty
+abbrev pub count : {X : Type 0} → Option (List X) → ℕ
+count None = 0
+count (Some xs) = length xs
+
+abbrev pub or_empty : {X : Type 0} → Option (List X) → List X
+or_empty None = []
+or_empty (Some xs) = xs
+
+-- the lines of an accepted file, by their numbers: what is in it, the collar of the last sale, and the price and the
+-- shares at which its resting orders would clear in that collar; and then the rest
+abbrev pub figures_text : (resting events note last_sale ranking low high price shares : ℕ) → List ℕ → List ℕ
+figures_text r e n l k lo hi p x rest =
+    line (codes "read") (r ∷ e ∷ n ∷ l ∷ k ∷ []) (line (codes "collar") (lo ∷ hi ∷ []) (line (codes "clears") (p ∷ x ∷ []) rest))
+
+-- the line of one record of an allotment list
+abbrev pub fill_line : Allotment → List ℕ
+fill_line a = line (codes "fill") (a.place ∷ a.fill ∷ []) []
+
+-- the ranking that a heading names
+abbrev pub ranking_of : ℕ → OrderTerms → OrderTerms → Bool
+ranking_of n = cond (n == 1) by_display by_shares
+
+-- the same of a last sale and a list of resting orders
+module _ (last_sale : ℕ) (os : List OrderTerms) where
+  abbrev low : ℕ
+  low = collar_lowest last_sale last_sale
+
+  abbrev high : ℕ
+  high = collar_highest last_sale last_sale
+
+  abbrev clears_at : ℕ
+  clears_at = clearing_price low high (twice_middle last_sale last_sale) os
+
+  -- a line for the fill of each order: the buys by rising place, and then the sells
+  abbrev pub fill_lines : (ranking : ℕ) → List ℕ
+  fill_lines k = flat_map fill_line (allotments os (clearing_fills low high (ranking_of k) os (twice_middle last_sale last_sale)))
+
+  abbrev pub priced_text : (resting events note ranking : ℕ) → List ℕ
+  priced_text r e n k = figures_text r e n last_sale k low high clears_at (executed low high os clears_at) (fill_lines k)
 
 abbrev pub session_lines : Session → List ℕ
-session_lines s = run_lines (ranking_of s.ranking) 0 (session_state s) (session_calls s)
+session_lines s =
+    priced_text s.last_sale (or_empty s.resting) (count s.resting) (count s.events) (count s.note) s.ranking
 
--- the file keeps the layout of this session and of no other, and the text tells how its events are answered
+-- the file keeps the layout of this session and of no other, and the text tells what is in it
 pub record TellsSession (file text : List ℕ) (s : Session) : Type 0 where
   pub no_cause : fault file ≡ None
   pub keeps : KeepsLayout file s

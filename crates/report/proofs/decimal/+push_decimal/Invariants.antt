@@ -1,5 +1,0 @@
--- The leading digits are a smaller number.
-use Rattle.report.proofs.decimal.+push_decimal.Given as goal
-
-abbrev pub decreases-push-decimal : goal.decreases-push-decimal
-decreases-push-decimal l = l.n

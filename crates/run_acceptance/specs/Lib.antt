@@ -1,0 +1,2 @@
+-- What the acceptance program's contracts cite.
+pub mod Digits

@@ -1,0 +1,4 @@
+pub mod Digits
+pub mod AnswerLines
+pub mod SessionSteps
+pub mod RunLines

@@ -1,0 +1,159 @@
+//! The lines that tell the answers of a run.
+
+ghost use Rattle.std.specs.Prelude.{◌≡◌, ◌++◌, map, take, string_bytes, OnOk};
+ghost use Rattle.std.specs.List.{flat_map};
+ghost use Rattle.replay.specs.Performing.{reply};
+ghost use Rattle.run_report.specs.Answers.{all_lines, answer_lines, event_line, fill_line, info_line, left_line, shown};
+
+use crate::decimal::push_decimal;
+use crate::line::{push_line, push_numbers};
+use auction::answer::{Figures, Outcome};
+use cross::allotment::Allotment;
+use replay::answer::Answer;
+use std::alloc::AllocError;
+
+/// What a line shows of an answer.
+#[derive(Clone, Copy)]
+struct Columns {
+    number: u8,
+    price: u32,
+    shares: u32,
+}
+
+fn columns_of(answer: Answer) -> Columns
+    ensures { record { number = result.number; price = result.price; shares = result.shares } ≡ shown (reply answer) }
+{
+    match answer {
+        Answer::Refused(refusal) => Columns {
+            number: refusal.number(),
+            price: 0,
+            shares: 0,
+        },
+        Answer::Entered(shares) | Answer::Cancelled(shares) => Columns {
+            number: 0,
+            price: 0,
+            shares,
+        },
+        Answer::Published(figures) => Columns {
+            number: 0,
+            price: figures.reference_price,
+            shares: figures.paired_shares,
+        },
+        Answer::Crossed(outcome) => Columns {
+            number: 0,
+            price: outcome.price,
+            shares: outcome.executed,
+        },
+        Answer::Quoted | Answer::Moved => Columns {
+            number: 0,
+            price: 0,
+            shares: 0,
+        },
+    }
+}
+
+fn push_event(text: &mut String, place: usize, columns: Columns) -> Result<(), AllocError>
+    ensures { OnOk result (string_bytes text.new ≡ string_bytes text.old ++ event_line place (record { number = columns.number; price = columns.price; shares = columns.shares })) }
+{
+    push_decimal(text, place as u64)?;
+    push_numbers(
+        text,
+        &[
+            i64::from(columns.number),
+            i64::from(columns.price),
+            i64::from(columns.shares),
+        ],
+    )
+}
+
+fn push_info(text: &mut String, figures: Figures) -> Result<(), AllocError>
+    ensures { OnOk result (string_bytes text.new ≡ string_bytes text.old ++ info_line figures) }
+{
+    push_line(
+        text,
+        "info",
+        &[
+            i64::from(figures.reference_price),
+            i64::from(figures.paired_shares),
+            figures.imbalance,
+            i64::from(figures.indicative_price),
+            i64::from(figures.auction_price),
+            i64::from(figures.collar_lowest),
+            i64::from(figures.collar_highest),
+            i64::from(figures.twice_middle),
+        ],
+    )
+}
+
+fn push_left(text: &mut String, outcome: Outcome) -> Result<(), AllocError>
+    ensures { OnOk result (string_bytes text.new ≡ string_bytes text.old ++ left_line outcome) }
+{
+    push_line(
+        text,
+        "left",
+        &[i64::from(outcome.ended), i64::from(outcome.released)],
+    )
+}
+
+fn push_fill(text: &mut String, allotment: Allotment) -> Result<(), AllocError>
+    ensures { OnOk result (string_bytes text.new ≡ string_bytes text.old ++ fill_line allotment) }
+{
+    text.push_str("fill,")?;
+    push_decimal(text, allotment.place as u64)?;
+    push_numbers(text, &[i64::from(allotment.fill)])
+}
+
+/// Appends a line for each allotment.
+fn push_fills(text: &mut String, allotments: &[Allotment]) -> Result<(), AllocError>
+    ensures { OnOk result (string_bytes text.new ≡ string_bytes text.old ++ flat_map fill_line allotments.now) }
+{
+    for allotment in allotments {
+        push_fill(text, *allotment)?;
+    }
+    Ok(())
+}
+
+/// The first records of a list, or all where there are no more.
+fn first_of(list: &[Allotment], count: usize) -> &[Allotment]
+    ensures { result.now ≡ take count list.now }
+{
+    if count < list.len() {
+        &list[0..count]
+    } else {
+        list
+    }
+}
+
+/// Appends the line of an event, and those that its answer adds.
+pub(crate) fn push_answer(
+    text: &mut String,
+    place: usize,
+    answer: Answer,
+    list: &[Allotment],
+) -> Result<(), AllocError>
+    ensures { OnOk result (string_bytes text.new ≡ string_bytes text.old ++ answer_lines list.now place (reply answer)) }
+{
+    push_event(text, place, columns_of(answer))?;
+    match answer {
+        Answer::Published(figures) => push_info(text, figures),
+        Answer::Crossed(outcome) => {
+            push_fills(text, first_of(list, outcome.records))?;
+            push_left(text, outcome)
+        }
+        _ => Ok(()),
+    }
+}
+
+/// Appends the lines of all answers, with their places counted from 0.
+pub(crate) fn push_answers(
+    text: &mut String,
+    answers: &[Answer],
+    list: &[Allotment],
+) -> Result<(), AllocError>
+    ensures { OnOk result (string_bytes text.new ≡ string_bytes text.old ++ all_lines list.now 0 (map reply answers.now)) }
+{
+    for (place, answer) in answers.iter().enumerate() {
+        push_answer(text, place, *answer, list)?;
+    }
+    Ok(())
+}

@@ -1,0 +1,88 @@
+//! The report of a session file, as text: its events are run on the auction of its last sale, and each is told with its
+//! answer; a file that breaks the layout is told by its one cause.
+
+#![tactic(auto)]
+
+ghost use Rattle.std.specs.Prelude.{◌≡◌, ◌++◌, IfOk, string_bytes, OnOk};
+ghost use Rattle.market.specs.Causes.{cause};
+ghost use Rattle.session.specs.Reading.{Accepts, Reads, handed};
+ghost use Rattle.run_report.specs.Text.{Reports, first_line, refused_line, session_lines};
+
+use crate::answers::push_answers;
+use crate::events::answers_of;
+use crate::line::push_line;
+use auction::book::MOST_ACCEPTED;
+use cross::allotment::Allotment;
+use market::refusal::Refusal;
+use session::file::{LARGEST_FILE, SessionFile, read};
+use session::heading::Heading;
+use session::resting::MOST_RESTING;
+use std::alloc::{AllocError, Global};
+
+mod answers;
+mod decimal;
+mod events;
+mod line;
+
+/// How much of an input the report needs: one byte more than the largest session file, so that longer input is refused
+/// as too large and endless input is not read on.
+pub const MOST_INPUT: u64 = LARGEST_FILE as u64 + 1;
+
+/// The fullest auction book, and the longest resting body behind it.
+const MOST_ALLOTMENTS: usize = MOST_ACCEPTED + MOST_RESTING;
+
+/// The first line of every report: the names of the columns.
+const FIRST_LINE: &str = "event,answer,price,shares\n";
+
+/// Appends the line of a cause.
+fn push_cause(text: &mut String, number: u8, layer: u8, byte: u16) -> Result<(), AllocError>
+    ensures { OnOk result (string_bytes text.new ≡ string_bytes text.old ++ refused_line (record { number = number; layer = layer; byte = byte })) }
+{
+    push_line(
+        text,
+        "refused",
+        &[i64::from(number), i64::from(layer), i64::from(byte)],
+    )
+}
+
+fn refused_text(heap: Global, refusal: Refusal) -> Result<String, AllocError>
+    ensures { IfOk result (λ t. string_bytes t ≡ first_line ++ refused_line (cause refusal)) }
+{
+    let mut text = String::from_str(heap, FIRST_LINE)?;
+    push_cause(&mut text, refusal.number(), refusal.layer(), refusal.byte())?;
+    Ok(text)
+}
+
+fn accepted_text(
+    heap: Global,
+    session: &SessionFile<'_>,
+    heading: Heading,
+) -> Result<String, AllocError>
+    requires { Accepts session.now.file.now session.now heading }
+    ensures { IfOk result (λ t. string_bytes t ≡ first_line ++ session_lines (handed session.now heading)) }
+{
+    let mut list = [Allotment { place: 0, fill: 0 }; MOST_ALLOTMENTS];
+    let answers = answers_of(heap, heading, session.resting, session.events, &mut list)?;
+    let mut text = String::from_str(heap, FIRST_LINE)?;
+    push_answers(&mut text, &answers, &list)?;
+    Ok(text)
+}
+
+fn text_of(heap: Global, session: &SessionFile<'_>) -> Result<String, AllocError>
+    requires { Reads session.now.file.now session.now }
+    ensures { IfOk result (λ t. Reports session.now.file.now (string_bytes t)) }
+{
+    match session.verdict {
+        Ok(heading) => accepted_text(heap, session, heading),
+        Err(refusal) => refused_text(heap, refusal),
+    }
+}
+
+/// The report of a session file: how each of its events is answered, or the one cause for which it is refused. It fails
+/// only for want of memory.
+pub fn report(heap: Global, file: &[u8]) -> Result<String, AllocError>
+    ensures { IfOk result (λ t. Reports file.now (string_bytes t)) }
+{
+    let session = read(file);
+    text_of(heap, &session)
+}

@@ -1,0 +1,14 @@
+//! Holdzaus: a session file on standard input, the report of its opening auction on standard output.
+
+#![tactic(auto)]
+
+use run_report::{MOST_INPUT, report};
+use std::io;
+use std::io::Read;
+
+fn main(rt: HostRuntime) -> io::Result<()> {
+    let mut file = Vec::new(rt.alloc());
+    rt.stdin().take(MOST_INPUT).read_to_end(&mut file)?;
+    let text = report(rt.alloc(), &file)?;
+    rt.print(text.as_str())
+}
