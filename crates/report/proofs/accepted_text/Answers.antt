@@ -74,8 +74,8 @@ returns c =
     let fills : flat_map fill_line (take (c.count-orders.result - 0) c.of-figures.new.list) ≡ lines lo hi all
     = ap (flat_map fill_line) (front orders (clearing_fills r.low r.high (ranking_of k) orders t) c.of-figures.new.list _ c.count-orders.result c.count-orders.ensures got.crossed.fills)
     ∙ (ap (λ m. lines m r.high orders) got.low ∙ (ap (λ m. lines lo m orders) got.high ∙ ap (lines lo hi) same)) in
-    c.in-ok-push-fills.ensures
-    ∙ (ap (λ bs. bs ++ flat_map fill_line (take (c.count-orders.result - 0) c.of-figures.new.list)) c.in-ok-text.ensures
+    c.in_ok-push_fills.ensures
+    ∙ (ap (λ bs. bs ++ flat_map fill_line (take (c.count-orders.result - 0) c.of-figures.new.list)) c.in_ok-text.ensures
     ∙ (figures_then c.count-orders.result c.count.result (length f.note.now) l k r.low r.high r.price r.shares (flat_map fill_line (take (c.count-orders.result - 0) c.of-figures.new.list))
     ∙ same_text _ _ _ _ _ _ l k _ _ _ _ _ _ _ _ _ _
     (c.count-orders.ensures ∙ counted (present file Resting) orders no_orders)

@@ -34,10 +34,10 @@ returns c =
     let state = first_state h.last_sale.cents blank_list in
     let Lines : List OrderTerms → List Timed → List ℕ
     = λ os es. run_lines good 0 state (map (asked_with os) es) in
-    let did = c.in-ok-answers.ensures in
-    let lines : all_lines c.answers-of.new.list 0 (map reply c.deref.result.now) ≡ Lines orders events
-    = ap (λ (given : List Answer). all_lines c.answers-of.new.list 0 (map reply given)) c.deref.ensures.value
+    let did = c.in_ok-answers.ensures in
+    let lines : all_lines c.answers_of.new.list 0 (map reply c.deref.result.now) ≡ Lines orders events
+    = ap (λ (given : List Answer). all_lines c.answers_of.new.list 0 (map reply given)) c.deref.ensures.value
     ∙ ((λ i. all_lines (did.1 i) 0 (did.0 i)) ∙ sym (told_by_last_list good 0 state (map (asked_with orders) events))) in
-    c.in-ok-push-answers.ensures
-    ∙ (ap (λ (bs : List ℕ). bs ++ all_lines c.answers-of.new.list 0 (map reply c.deref.result.now)) c.in-ok-text.ensures.ok
+    c.in_ok-push_answers.ensures
+    ∙ (ap (λ (bs : List ℕ). bs ++ all_lines c.answers_of.new.list 0 (map reply c.deref.result.now)) c.in_ok-text.ensures.ok
     ∙ (ap (λ (bs : List ℕ). first_line ++ bs) lines ∙ (λ i. first_line ++ Lines (resting i) (timed i))))

@@ -8,7 +8,7 @@ use Rattle.replay.proofs.running.replay.Goals as goal
 
 pub returns-in-Ok : goal.returns-in-Ok
 returns-in-Ok g c =
-    let l = c.args.last-sale in
+    let l = c.args.last_sale in
     let begun = c.in-Ok.ensures in
     let did = c.run.ensures in
     let lawful = not_refused (lawful_price l) begun.cause in
@@ -24,7 +24,7 @@ returns-in-Ok g c =
 pub returns-in-Err : goal.returns-in-Err
 returns-in-Err g c =
     let kept = c.in-Err.ensures in
-    let sale = refused_sale (lawful_price c.args.last-sale) c.in-Err.refusal kept.cause in
+    let sale = refused_sale (lawful_price c.args.last_sale) c.in-Err.refusal kept.cause in
     record {
       every = every_clearing;
       ran = ((omega (arith, c.if-given-steps.false), sale.0, sale.1), kept.after, refl, refl);

@@ -9,7 +9,7 @@ returns c =
     let h = c.args.heading in
     let g = c.args.figures in
     let priced : List ℕ = line (codes "collar") (g.low ∷ g.high ∷ []) (line (codes "clears") (g.price ∷ g.shares ∷ []) []) in
-    c.in-ok-push-str.ensures.bytes
-    ∙ (ap (λ bs. string_bytes c.in-ok-text.text ++ bs) (c.as-str.ensures.value ∙ c.in-ok-priced.ensures)
-    ∙ (ap (λ bs. bs ++ priced) c.in-ok-text.ensures
+    c.in_ok-push_str.ensures.bytes
+    ∙ (ap (λ bs. string_bytes c.in_ok-text.text ++ bs) (c.as_str.ensures.value ∙ c.in_ok-priced.ensures)
+    ∙ (ap (λ bs. bs ++ priced) c.in_ok-text.ensures
     ∙ read_then (c.args.resting ∷ c.args.events ∷ c.args.note ∷ h.last_sale.cents ∷ h.ranking ∷ []) priced))

@@ -9,19 +9,19 @@ use Rattle.run_report.proofs.answers.push_answer.Goals as goal
 
 pub returns-in-Published : goal.returns-in-Published
 returns-in-Published c =
-    IfOk-weaker c.push-info.result _ _
-    (λ x p. told c.args.list.now c.args.place _ c.args.answer _ (string_bytes c.args.text.now) _ _ c.in-ok-push-event.ensures c.columns-of.ensures c.in-Published.is p)
-    c.push-info.ensures
+    IfOk-weaker c.push_info.result _ _
+    (λ x p. told c.args.list.now c.args.place _ c.args.answer _ (string_bytes c.args.text.now) _ _ c.in_ok-push_event.ensures c.columns_of.ensures c.in-Published.is p)
+    c.push_info.ensures
 
-pub returns-in-ok-push-fills : goal.returns-in-ok-push-fills
-returns-in-ok-push-fills c =
+pub returns-in_ok-push_fills : goal.returns-in_ok-push_fills
+returns-in_ok-push_fills c =
     let list = c.args.list.now in
     let o = c.in-Crossed.outcome in
-    let mid = string_bytes c.push-event.new.text in
+    let mid = string_bytes c.push_event.new.text in
     let fills = flat_map fill_line (take o.records list) in
-    let filled = c.in-ok-push-fills.ensures ∙ ap (λ rs. mid ++ flat_map fill_line rs) c.first-of.ensures in
-    IfOk-weaker c.push-left.result _ _
+    let filled = c.in_ok-push_fills.ensures ∙ ap (λ rs. mid ++ flat_map fill_line rs) c.first_of.ensures in
+    IfOk-weaker c.push_left.result _ _
     (λ x p.
-    told list c.args.place _ c.args.answer _ (string_bytes c.args.text.now) _ _ c.in-ok-push-event.ensures c.columns-of.ensures c.in-Crossed.is
+    told list c.args.place _ c.args.answer _ (string_bytes c.args.text.now) _ _ c.in_ok-push_event.ensures c.columns_of.ensures c.in-Crossed.is
     (p ∙ (ap (λ bs. bs ++ left_line o) filled ∙ append_assoc mid fills (left_line o))))
-    c.push-left.ensures
+    c.push_left.ensures

@@ -5,7 +5,7 @@ use Rattle.run_report.proofs.answers.push_answers.Goals as goal
 
 pub loop-place-preserved : goal.loop-place-preserved
 loop-place-preserved c =
-    told_more c.args.list.now c.args.answers.now c.loop-place.place _ (string_bytes c.loop-place.text) (string_bytes c.push-answer.new.text) c.loop-place-test.true c.in-ok-push-answer.ensures
+    told_more c.args.list.now c.args.answers.now c.loop-place.place _ (string_bytes c.loop-place.text) (string_bytes c.push_answer.new.text) c.loop-place-test.true c.in_ok-push_answer.ensures
     ∙ c.loop-place.invariant
 
 pub returns : goal.returns

@@ -16,7 +16,7 @@ loop-allotment-preserved c =
     let before = string_bytes c.args.text.now in
     let h : i < length xs = omega arith in
     let a = get_or xs i none in
-    c.in-ok-push-fill.ensures
+    c.in_ok-push_fill.ensures
     ∙ (ap (λ bs. bs ++ fill_line a) c.loop-allotment.invariant
     ∙ (flat_map_more fill_line before (take i xs) a ∙ ap (λ ys. before ++ flat_map fill_line ys) (sym (take_more xs i none h))))
 

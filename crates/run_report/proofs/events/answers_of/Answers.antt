@@ -20,8 +20,8 @@ as_many book steps es e = sym (length-map steps (asked filed_orders)) ∙ (ap le
 pub unreachable-requires-in-AnswersShort : goal.unreachable-requires-in-AnswersShort
 unreachable-requires-in-AnswersShort c =
     let es = events_in c.args.events.records.now in
-    let steps = c.push-steps.new.steps in
-    let count = as_many c.args.resting (vec_items steps) es c.push-steps.ensures in
+    let steps = c.push_steps.new.steps in
+    let count = as_many c.args.resting (vec_items steps) es c.push_steps.ensures in
     let l = c.args.heading.last_sale.cents in
     let short = subst (Fails l (length c.deref.result.now) (length c.deref-mut.result.now)) c.in-AnswersShort.is c.in-Err.ensures in
     omega (
@@ -30,26 +30,26 @@ unreachable-requires-in-AnswersShort c =
       short,
       ap length c.deref.ensures.value,
       c.deref-mut.ensures.len,
-      c.in-ok-given.ensures.len,
+      c.in_ok-given.ensures.len,
       c.count-2.ensures,
     )
 
 pub returns : goal.returns
 returns c =
     let es = events_in c.args.events.records.now in
-    let steps = c.push-steps.new.steps in
+    let steps = c.push_steps.new.steps in
     let good = ranking_of c.args.heading.ranking in
     let first = first_state c.args.heading.last_sale.cents c.args.list.now in
-    let v = c.in-ok-given.given in
-    let ws = c.replay-by.new.given in
+    let v = c.in_ok-given.given in
+    let ws = c.replay_by.new.given in
     let n = length c.deref.result.now in
     let did = c.in-Ok.ensures in
-    let count = as_many c.args.resting (vec_items steps) es c.push-steps.ensures in
+    let count = as_many c.args.resting (vec_items steps) es c.push_steps.ensures in
     let calls : map (asked filed_orders) c.deref.result.now ≡ map (asked_with (filed_orders c.args.resting)) es
-    = ap (λ (xs : List (Step FiledBook)). map (asked filed_orders) xs) c.deref.ensures.value ∙ c.push-steps.ensures in
-    let same : length ws ≡ v.len = omega (arith, c.replay-by.auto.given, c.deref-mut.ensures.len) in
+    = ap (λ (xs : List (Step FiledBook)). map (asked filed_orders) xs) c.deref.ensures.value ∙ c.push_steps.ensures in
+    let same : length ws ≡ v.len = omega (arith, c.replay_by.auto.given, c.deref-mut.ensures.len) in
     let all : length ws ≤ n
-    = omega (arith, same, count, ap length c.deref.ensures.value, c.in-ok-given.ensures.len, c.count-2.ensures) in (
+    = omega (arith, same, count, ap length c.deref.ensures.value, c.in_ok-given.ensures.len, c.count-2.ensures) in (
       ap (λ (xs : List Answer). map reply xs) (with_items_is v ws same)
           ∙ (sym (ap (λ (xs : List Answer). map reply xs) (take_all n ws all)) ∙ (did.answered ∙ ap (answers good first) calls)),
       did.written ∙ ap (λ (cs : List Asked). (after good first cs).list) calls,

@@ -6,10 +6,10 @@ use Rattle.session.specs.declared.resting.FiledBook.{FiledBook}
 use Rattle.replay.specs.declared.step.Step.{Step}
 use Rattle.run_report.proofs.SessionSteps.{Listed, listed_all, listed_more}
 use Rattle.run_report.proofs.events.push_steps.Goals as goal
-use Rattle.run_report.proofs.events.push_steps.Goals.{in-Some, in-default}
+use Rattle.run_report.proofs.events.push_steps.Goals.{in-Some, in_default}
 
-pub push-reserved-requires : goal.push-reserved-requires
-push-reserved-requires c =
+pub push_reserved-requires : goal.push_reserved-requires
+push_reserved-requires c =
     let found = c.in-Some.ensures in
     omega (arith, c.loop-place.invariant.1, c.loop-place.invariant.2, found.0)
 
@@ -24,13 +24,13 @@ loop-place-preserved c =
       | in-Some w ↦
           let e = w.in-Some.timed in
           let found = w.in-Some.ensures in
-          let pushed = w.push-reserved.ensures in
+          let pushed = w.push_reserved.ensures in
           subst Next (sym w.steps-is) (
-            listed_more book es k e (vec_items c.loop-place.steps) (vec_items w.push-reserved.new.self) found.0 found.1 c.loop-place.invariant.0 pushed.items,
+            listed_more book es k e (vec_items c.loop-place.steps) (vec_items w.push_reserved.new.self) found.0 found.1 c.loop-place.invariant.0 pushed.items,
             omega (arith, pushed.len, c.loop-place.invariant.1),
             omega (arith, pushed.capacity, c.loop-place.invariant.2),
           )
-      | in-default w ↦ absurd (omega (arith, w.in-default.ensures, c.count-place-end.ensures))
+      | in_default w ↦ absurd (omega (arith, w.in_default.ensures, c.count-place-end.ensures))
     ]
 
 pub returns : goal.returns

@@ -4,4 +4,4 @@ use Rattle.auction.proofs.book.AuctionBook.find.Given as goal
 
 -- what is left of the book gives the answer
 abbrev pub invariant-loop-i : goal.invariant-loop-i
-invariant-loop-i l = place_from (drop l.i (accepted l.self)) l.entry-number l.i ≡ place_of (accepted l.self) l.entry-number
+invariant-loop-i l = place_from (drop l.i (accepted l.self)) l.entry_number l.i ≡ place_of (accepted l.self) l.entry_number

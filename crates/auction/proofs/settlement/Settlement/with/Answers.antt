@@ -6,8 +6,8 @@ use Rattle.auction.specs.Settling.{ends, if_here, releases}
 use Rattle.auction.proofs.SettlingSteps.{counts, ends_if_leaving, filled_within, no_end_if_staying, no_release_if_leaving, released_if_staying}
 use Rattle.auction.proofs.settlement.Settlement.with.Goals as goal
 
-pub overflow-sub-left : goal.overflow-sub-left
-overflow-sub-left c =
+pub overflow_sub-left : goal.overflow_sub-left
+overflow_sub-left c =
     let found = c.in-Some.ensures in
     filled_within (accepted c.args.book.now) c.args.allotment c.in-Some.order.terms found.0 found.1 c.requires.within
 

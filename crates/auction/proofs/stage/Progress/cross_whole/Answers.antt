@@ -14,14 +14,14 @@ use Rattle.auction.proofs.CrossOutcome.{list_is, outcome_is}
 use Rattle.auction.proofs.Settlements.{records_within, settled_of_records}
 use Rattle.auction.proofs.stage.Progress.cross_whole.Goals as goal
 
-pub of-first-settlement-requires : goal.of-first-settlement-requires
-of-first-settlement-requires g c =
+pub of_first-settlement-requires : goal.of_first-settlement-requires
+of_first-settlement-requires g c =
     let mine = accepted c.args.book.now in
     let filed = g.F.Book.orders c.args.filed.now in
     let os = joined mine filed in
-    let x = c.in-ok-crossing.ensures in
+    let x = c.in_ok-crossing.ensures in
     let range = c.collar.result in
-    let fill = clearing_fills range.lowest.cents range.highest.cents g.R.Ranking.good os c.twice-middle-twice.result in
+    let fill = clearing_fills range.lowest.cents range.highest.cents g.R.Ranking.good os c.twice_middle-twice.result in
     let after = c.cross.new.list in
     let before = c.args.list.now in
     let n = c.count-records.result in
@@ -41,25 +41,25 @@ returns g c =
     let filed = g.F.Book.orders c.args.filed.now in
     let os = joined mine filed in
     let good = g.R.Ranking.good in
-    let x = c.in-ok-crossing.ensures in
+    let x = c.in_ok-crossing.ensures in
     let range = c.collar.result in
     let lo = range.lowest.cents in
     let hi = range.highest.cents in
-    let t = c.twice-middle-twice.result in
+    let t = c.twice_middle-twice.result in
     let fill = clearing_fills lo hi good os t in
     let after = c.cross.new.list in
     let before = c.args.list.now in
     let n = c.count-records.result in
-    let ends = c.reference-range-range.ensures in
+    let ends = c.reference_range-range.ensures in
     let low : lo ≡ collar_low a = c.collar.ensures.lowest ∙ (λ i. collar_lowest (ends.lowest i) (ends.highest i)) in
     let high : hi ≡ collar_high a = c.collar.ensures.highest ∙ (λ i. collar_highest (ends.lowest i) (ends.highest i)) in
-    let middle : t ≡ twice a = c.twice-middle-twice.ensures ∙ (λ i. twice_middle (ends.lowest i) (ends.highest i)) in
-    let settles : c.of-first-settlement.result ≡ settled mine fill
-    = c.of-first-settlement.ensures
+    let middle : t ≡ twice a = c.twice_middle-twice.ensures ∙ (λ i. twice_middle (ends.lowest i) (ends.highest i)) in
+    let settles : c.of_first-settlement.result ≡ settled mine fill
+    = c.of_first-settlement.ensures
     ∙ (ap (settled_by mine) (first_records os fill after before n c.count-records.ensures x.written)
     ∙ settled_of_records mine filed fill (accepted_short c.args.book.now)) in
     let fits = records_fit os fill after before x.written in (
-      outcome_is a filed good lo hi t low high middle c.in-ok-crossing.crossing c.of-first-settlement.result n c.answered.result x.price x.shares settles c.count-records.ensures c.answered.ensures,
+      outcome_is a filed good lo hi t low high middle c.in_ok-crossing.crossing c.of_first-settlement.result n c.answered.result x.price x.shares settles c.count-records.ensures c.answered.ensures,
       list_is a filed good lo hi t low high middle before after x.written,
       omega (arith, fits, c.cross.auto.list),
     )

@@ -15,9 +15,9 @@ returns-in-Ok g c =
     let n = length (whole a (g.F.Book.orders c.args.filed.now)) in
     let room = length c.args.list.now in
     let t = c.args.time in
-    let emptied : crossed_auction (record { progress = c.moved-to-progress.result }) c.clear.new.self ≡ crossed a t
-    = λ i. auction_at in_crossed (c.moved-to-progress.ensures i) (c.clear.ensures i) in
+    let emptied : crossed_auction (record { progress = c.moved_to-progress.result }) c.clear.new.self ≡ crossed a t
+    = λ i. auction_at in_crossed (c.moved_to-progress.ensures i) (c.clear.ensures i) in
     record {
-      cause = no_cause_to_cross (ltb t c.args.self.progress.last_time) (outside cross_time day_end t) (ltb room n) c.in-default.ensures (le-ltb room n x.2);
+      cause = no_cause_to_cross (ltb t c.args.self.progress.last_time) (outside cross_time day_end t) (ltb room n) c.in_default.ensures (le-ltb room n x.2);
       after = (emptied, x.0, x.1);
     }

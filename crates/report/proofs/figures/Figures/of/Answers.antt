@@ -9,7 +9,7 @@ returns g c =
     let x = c.in-Ok.ensures in
     let r = c.collar-collar.result in
     let Crossed-with : ℕ → Type 0 = λ t.
-    Priced r.lowest.cents r.highest.cents (ranking_of c.args.heading.ranking) (g.B.Book.orders c.args.book.now) t c.args.list.now c.cross-by.new.list c.in-Ok.crossing.price.cents c.in-Ok.crossing.executed in
+    Priced r.lowest.cents r.highest.cents (ranking_of c.args.heading.ranking) (g.B.Book.orders c.args.book.now) t c.args.list.now c.cross_by.new.list c.in-Ok.crossing.price.cents c.in-Ok.crossing.executed in
     record {
       low = c.collar-collar.ensures.lowest;
       high = c.collar-collar.ensures.highest;

@@ -5,8 +5,8 @@ use Rattle.market.specs.Orders.{Sound}
 use Rattle.cross.specs.Fills.{no_order}
 use Rattle.auction.proofs.book.listing.AuctionBookBook.order.Goals as goal
 
-pub invariant-of-result : goal.invariant-of-result
-invariant-of-result c =
+pub invariant_of-result : goal.invariant_of-result
+invariant_of-result c =
     let v = c.args.self.now.rows in
     let i = c.args.place in
     let h : i < vec_len v = omega (arith, c.len.ensures, c.if-place-len.false) in
