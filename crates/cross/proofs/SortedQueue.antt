@@ -22,7 +22,7 @@ use Rattle.cross.proofs.FillSums.{before_on_side, same_side_both, same_side_is}
 use Rattle.cross.proofs.GivingOut.{given_records, right_from}
 use Rattle.cross.proofs.PlaceSums.{same_sums, sum_of_rest}
 use Rattle.cross.proofs.Queueing.{as_many, place_is, slot_is}
-use Rattle.cross.proofs.QueueOrder.{either, ranked}
+use Rattle.cross.specs.QueueOrder.{either, ranked}
 
 -- ---- sums
 

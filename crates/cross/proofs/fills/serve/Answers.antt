@@ -2,7 +2,7 @@
 use Rattle.std.proofs.Common.{◌∙◌}
 use Rattle.std.proofs.ByRecursion.{all_shuffled}
 use Rattle.cross.specs.declared.queue.Queued.{Queued}
-use Rattle.cross.proofs.QueueOrder.{sorted, total}
+use Rattle.cross.specs.QueueOrder.{sorted, total}
 use Rattle.cross.proofs.SortedQueue.{fills_given}
 use Rattle.cross.proofs.fills.serve.Goals as goal
 
