@@ -4,7 +4,7 @@ use Rattle.std.proofs.Common.{◌≡◌, ℕ, ◌+◌, Bool, true, false, cond, 
 use Rattle.std.proofs.lemmas.Bool.Decides.{nat_tests}
 use Rattle.std.specs.Cmp.{IsEquivalence, IsPartialEquivalence, IsPartialOrder, IsStrictWeakOrder, IsTotalOrder, eq_by_cmp_equiv, partial_equiv_from_equiv, po}
 use Rattle.std.specs.Ordering.{as_partial_cmp, eq_by_cmp, is_lt}
-use Rattle.std.specs.List.Sorted.{IsSortedWithin}
+use Rattle.std.specs.List.Sorted.{IsSorted, IsSortedBy}
 use Rattle.market.specs.declared.order.Side.{Side}
 use Rattle.market.specs.declared.order.Side.TheVariants.{Buy, Sell}
 use Rattle.market.specs.declared.order.OrderTerms.{OrderTerms}
@@ -119,8 +119,8 @@ module _ (good : OrderTerms → OrderTerms → Bool) (laws : Laws good) where
     total = total_from_ranks earlier ranked
 
     -- what a sort by it ensures
-    pub sorted : (xs : List X) (n : ℕ) → IsSortedWithin (λ x y. is_lt (compared x y)) xs 0 n → IsSortedWithin earlier xs 0 n
-    sorted xs n up k d l h =
+    pub sorted : (xs : List X) → IsSorted compared xs → IsSortedBy earlier xs
+    sorted xs up k d l h =
         let x = get_or xs (k + 1) d in
         let y = get_or xs k d in
         sym (less_is (earlier x y) (earlier y x)) ∙ up k d l h
