@@ -5,7 +5,6 @@ pub mod ThreeSteps
 pub mod ClearingPrice
 pub mod Bisection
 pub mod Searching
-pub mod QueueOrder
 pub mod GivingOut
 pub mod Allotting
 pub mod Queueing

@@ -8,7 +8,7 @@ use Rattle.std.proofs.lemmas.List.Sums.{get_or-le-sum_by, sum_by-cons, sum_by-dr
 use Rattle.std.proofs.lemmas.Bool.{false≢true}
 use Rattle.std.proofs.lemmas.Bool.Decides.{nat_tests}
 use Rattle.std.specs.List.{range_with_len, ContainsAt as Has, AllByRecursion as All}
-use Rattle.std.specs.List.Sorted.{IsSortedWithin, IsPermutation}
+use Rattle.std.specs.List.Sorted.{IsPermutation, IsSortedBy}
 use Rattle.market.specs.declared.order.Side.{Side}
 use Rattle.market.specs.declared.order.Side.TheVariants.{Buy, Sell}
 use Rattle.market.specs.declared.order.OrderTerms.{OrderTerms}
@@ -22,7 +22,7 @@ use Rattle.cross.proofs.FillSums.{before_on_side, same_side_both, same_side_is}
 use Rattle.cross.proofs.GivingOut.{given_records, right_from}
 use Rattle.cross.proofs.PlaceSums.{same_sums, sum_of_rest}
 use Rattle.cross.proofs.Queueing.{as_many, place_is, slot_is}
-use Rattle.cross.proofs.QueueOrder.{either, ranked}
+use Rattle.cross.specs.QueueOrder.{either, ranked}
 
 -- ---- sums
 
@@ -96,7 +96,7 @@ module _ {X : Type 0} (terms : X → OrderTerms) (place slot : X → ℕ) (good 
 
     -- the queue, and what a sort made of it
     module _ (queue qs : List X) (of : Queue terms place slot side os n queue) (moved : IsPermutation queue qs)
-        (up : IsSortedWithin earlier qs 0 (length queue)) where
+        (up : IsSortedBy earlier qs) where
       orders : All OfSide qs
       orders = all_shuffled OfSide queue qs moved of.orders
 
@@ -119,7 +119,7 @@ module _ {X : Type 0} (terms : X → OrderTerms) (place slot : X → ℕ) (good 
           omega (arith, two_in_sum (λ q. is_place t (place q)) qs i j d l h, sum_by_place (is_place t), fewer, once t 0 n, here, there)
 
       not_later : (i j : ℕ) (d : X) → i ≤ j → j < length qs → earlier (get_or qs j d) (get_or qs i d) ≡ false
-      not_later i j d l h = sorted_far earlier (ranked good laws terms place) qs (rw long up) i j d l h
+      not_later i j d l h = sorted_far earlier (ranked good laws terms place) qs up i j d l h
 
       of_side : (i : ℕ) (d : X) → i < length qs → OfSide (get_or qs i d)
       of_side i d h = All-get_or OfSide qs i d h orders

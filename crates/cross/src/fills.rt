@@ -72,6 +72,6 @@ pub(crate) fn serve<R: Ranking>(
     requires { All (λ q. (q.slot < length list.old) × (q.slot < 4096)) queue.old }
     ensures { (side : SideOf) (os : List OrderTerms) → Queue (λ q. q.order.terms) (λ q. q.place) (λ q. q.slot) side os (length os) queue.old → length queue.old ≤ length list.old → list.new ≡ side_allotments side os (fill range.lowest.cents range.highest.cents R.Ranking.good os price executed) (length os) ++ drop (length queue.old) list.old }
 {
-    queue.sort();
+    queue.sort_unstable();
     give_out(range, price, executed, queue, list);
 }

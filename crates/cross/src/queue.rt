@@ -3,10 +3,7 @@
 ghost use Rattle.std.specs.Prelude.{◌≡◌, not, ◌&&◌, ◌||◌, Some, nat_lt, refl};
 ghost use Rattle.std.specs.Ordering.{is_eq};
 ghost use Rattle.cross.specs.Queues.{standing, stands_before};
-ghost use Rattle.std.specs.Cmp.Rules.{comparing};
-ghost use Rattle.std.proofs.Common.{rules};
-ghost use Rattle.std.specs.Cmp as Keys;
-ghost use Rattle.std.specs.Cmp.{partial_order_from_agreeing_total};
+ghost use Rattle.cross.specs.QueueOrder.{alike_laws, equal_laws, partial_laws, total};
 
 use crate::ranking::{Ranking, is_same_side};
 use market::order::{Order, Side};
@@ -60,7 +57,7 @@ impl<R: Ranking> Queued<R> {
 impl<R: Ranking> PartialEq for Queued<R> {
     ghost eq = { λ x y. is_eq (standing R.Ranking.good x.order.terms x.place y.order.terms y.place) };
 
-    ghost laws = { Keys.partial_equiv_from_equiv (Prim.search (comparing, rules)) };
+    ghost laws = { equal_laws R.Ranking.good R.Ranking.lawful (λ q. q.order.terms) (λ q. q.place) };
 
     fn eq(&self, other: &Self) -> bool {
         self.standing(other).is_eq()
@@ -68,13 +65,13 @@ impl<R: Ranking> PartialEq for Queued<R> {
 }
 
 impl<R: Ranking> Eq for Queued<R> {
-    ghost laws = { Prim.search (comparing, rules) };
+    ghost laws = { alike_laws R.Ranking.good R.Ranking.lawful (λ q. q.order.terms) (λ q. q.place) };
 }
 
 impl<R: Ranking> PartialOrd for Queued<R> {
     ghost partial_cmp = { λ x y. Some (standing R.Ranking.good x.order.terms x.place y.order.terms y.place) };
 
-    ghost laws = { partial_order_from_agreeing_total (λ x y. standing R.Ranking.good x.order.terms x.place y.order.terms y.place) (Prim.search (comparing, rules)) (λ _ _. refl) (Prim.search (comparing, rules)) };
+    ghost laws = { partial_laws R.Ranking.good R.Ranking.lawful (λ q. q.order.terms) (λ q. q.place) };
 
     fn partial_cmp(&self, other: &Self) -> Option<Ordering> {
         Some(self.standing(other))
@@ -84,11 +81,11 @@ impl<R: Ranking> PartialOrd for Queued<R> {
 impl<R: Ranking> Ord for Queued<R> {
     ghost cmp = { λ x y. standing R.Ranking.good x.order.terms x.place y.order.terms y.place };
 
-    ghost total = { Prim.search (comparing, rules) };
+    ghost total = { total R.Ranking.good R.Ranking.lawful (λ q. q.order.terms) (λ q. q.place) };
 
-    ghost matches_partial_cmp = { Prim.search (comparing, rules) };
+    ghost matches_partial_cmp = { λ _ _. refl };
 
-    ghost matches_eq = { Prim.search (comparing, rules) };
+    ghost matches_eq = { λ _ _. refl };
 
     fn cmp(&self, other: &Self) -> Ordering {
         self.standing(other)

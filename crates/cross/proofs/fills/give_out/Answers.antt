@@ -15,8 +15,8 @@ own_record g c =
     let Own : Queued g.row.R.Denot → Type 0 = λ q. (q.slot < length c.args.list.now) × (q.slot < 4096) in
     subst Own (sym c.queued-item.is) (All-get_or Own c.args.queue.now c.loop-queued.queued-index c.queued-item.result c.loop-queued-test.true c.requires)
 
-pub offset-bounds-list-queued : goal.offset-bounds-list-queued
-offset-bounds-list-queued g c = omega (arith, (own_record g c).1)
+pub offset_bounds-list-queued : goal.offset_bounds-list-queued
+offset_bounds-list-queued g c = omega (arith, (own_record g c).1)
 
 pub bounds-list-queued : goal.bounds-list-queued
 bounds-list-queued g c = omega (arith, (own_record g c).0, c.loop-queued.auto.list)

@@ -4,28 +4,24 @@ use Rattle.std.proofs.lemmas.List.{length-take-le}
 use Rattle.cross.specs.declared.queue.Queued.{Queued}
 use Rattle.cross.proofs.Allotting.{places_within}
 use Rattle.cross.proofs.Queueing.{slots_within}
-use Rattle.cross.proofs.allotment.writing.write_side.Given as given
 use Rattle.cross.proofs.allotment.writing.write_side.Goals as goal
 
-within : (g : given.Over) (c : goal.After-queue·1 g) → c.queue-side-count.result ≤ length c.queue-side-count.new.queue
-within g c =
+pub slice_bounds-serve-end : goal.slice_bounds-serve-end
+slice_bounds-serve-end g c =
     let os = g.B.Book.orders c.args.book.now in
-    omega (arith, places_within c.args.side os (length os), c.requires.queue, c.queue-side-count.ensures.count, c.queue-side-count.auto.queue)
-
-pub slice-bounds-serve-end : goal.slice-bounds-serve-end
-slice-bounds-serve-end g c =
-    let h : c.queue-side-count.result ≤ length c.queue-side-count.new.queue = within g c in
+    let h : c.queue_side-count.result ≤ length c.queue_side-count.new.queue
+    = omega (arith, places_within c.args.side os (length os), c.requires.queue, c.queue_side-count.ensures.count, c.queue_side-count.auto.queue) in
     search rules
 
 pub serve-requires : goal.serve-requires
 serve-requires g c =
     let os = g.B.Book.orders c.args.book.now in
-    let n = c.queue-side-count.result in
-    let queue = c.queue-side-count.new.queue in
-    let count = c.queue-side-count.ensures.count in
-    let long : length (take n queue) ≡ n = length-take-le n queue (omega (arith, places_within c.args.side os (length os), c.requires.queue, count, c.queue-side-count.auto.queue)) in
+    let n = c.queue_side-count.result in
+    let queue = c.queue_side-count.new.queue in
+    let count = c.queue_side-count.ensures.count in
+    let long : length (take n queue) ≡ n = length-take-le n queue (omega (arith, places_within c.args.side os (length os), c.requires.queue, count, c.queue_side-count.auto.queue)) in
     let whole : n - 0 ≡ n = omega arith in
     rw whole
-    (slots_within (λ (q : Queued g.row.R.Denot). q.order.terms) (λ q. q.place) (λ q. q.slot) c.args.side os (length os) (take n queue) c.queue-side-count.ensures.queued (length c.args.list.now)
+    (slots_within (λ (q : Queued g.row.R.Denot). q.order.terms) (λ q. q.place) (λ q. q.slot) c.args.side os (length os) (take n queue) c.queue_side-count.ensures.queued (length c.args.list.now)
     (omega (arith, long, count, c.requires.list))
     (omega (arith, long, count, places_within c.args.side os (length os), g.B.Book.short c.args.book.now)))

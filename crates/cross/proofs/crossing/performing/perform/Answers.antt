@@ -18,7 +18,7 @@ returns g c =
     let laws = g.met.R.Ranking.lawful in
     let t = c.args.twice in
     let p = clearing_price lo hi t os in
-    let price = c.clearing-price-price.ensures in
+    let price = c.clearing_price-price.ensures in
     let shares : c.executed-executed.result ≡ executed lo hi os p
     = c.executed-executed.ensures
     ∙ (ap (λ (d : Depth). min d.bought d.sold) c.of.ensures ∙ ap (executed lo hi os) price) in

@@ -4,7 +4,7 @@ use Rattle.cross.specs.declared.depth.Depth.{Depth}
 use Rattle.cross.specs.Passes.{depth_by_limits}
 use Rattle.cross.proofs.PassSteps.{Adds, Small, pass_all, pass_more}
 use Rattle.cross.proofs.depth.Depth.by_limits.Goals as goal
-use Rattle.cross.proofs.depth.Depth.by_limits.Goals.{in-Some, in-default}
+use Rattle.cross.proofs.depth.Depth.by_limits.Goals.{in-Some, in_default}
 
 pub loop-place-preserved : goal.loop-place-preserved
 loop-place-preserved g c =
@@ -24,7 +24,7 @@ loop-place-preserved g c =
           } in
           subst Next (sym w.depth-is)
           (pass_more p os k o.terms c.loop-place.depth w.with-depth.result found.0 found.1 o.lawful c.loop-place.invariant.0 c.loop-place.invariant.1 adds)
-      | in-default w ↦ absurd (omega (arith, w.in-default.ensures, c.count-place-end.ensures))
+      | in_default w ↦ absurd (omega (arith, w.in_default.ensures, c.count-place-end.ensures))
     ]
 
 pub returns : goal.returns

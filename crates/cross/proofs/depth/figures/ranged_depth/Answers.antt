@@ -6,4 +6,4 @@ use Rattle.cross.proofs.depth.figures.ranged_depth.Goals as goal
 pub returns : goal.returns
 returns g c =
     let ranged = c.args.ranged.now in
-    c.by-limits.ensures ∙ depth_ranged ranged.range.lowest.cents ranged.range.highest.cents c.args.cents (g.B.Book.orders ranged.book)
+    c.by_limits.ensures ∙ depth_ranged ranged.range.lowest.cents ranged.range.highest.cents c.args.cents (g.B.Book.orders ranged.book)

@@ -2,9 +2,9 @@
 -- which two are equal only at one place.
 use Rattle.std.proofs.Common.{◌≡◌, ℕ, ◌+◌, Bool, true, false, cond, not, List, get_or, Ordering, Less, Equal, Greater, sym, refl, ◌∙◌, arith}
 use Rattle.std.proofs.lemmas.Bool.Decides.{nat_tests}
-use Rattle.std.specs.Cmp.{IsTotalOrder, IsStrictWeakOrder}
-use Rattle.std.specs.Ordering.{is_lt}
-use Rattle.std.specs.List.Sorted.{IsSortedWithin}
+use Rattle.std.specs.Cmp.{IsEquivalence, IsPartialEquivalence, IsPartialOrder, IsStrictWeakOrder, IsTotalOrder, eq_by_cmp_equiv, partial_equiv_from_equiv, po}
+use Rattle.std.specs.Ordering.{as_partial_cmp, eq_by_cmp, is_lt}
+use Rattle.std.specs.List.Sorted.{IsSorted, IsSortedBy}
 use Rattle.market.specs.declared.order.Side.{Side}
 use Rattle.market.specs.declared.order.Side.TheVariants.{Buy, Sell}
 use Rattle.market.specs.declared.order.OrderTerms.{OrderTerms}
@@ -35,18 +35,16 @@ module _ {X : Type 0} (lt : X → X → Bool) (ranks : IsStrictWeakOrder lt) whe
   abbrev answer : X → X → Ordering
   answer x y = cond (lt x y) Less (cond (lt y x) Greater Equal)
 
-  total_from_ranks : IsTotalOrder (λ (x y : X) (r : Ordering). r ≡ answer x y)
+  total_from_ranks : IsTotalOrder answer
   total_from_ranks = record {
-    cmp = answer;
-    says = λ x y r e. e;
-    flip = λ x y.
+    antisymm = λ x y.
         let back = ranks.one_way x y in
         grind arith;
     trans = λ x y z a b.
         let back = ranks.one_way y z in
         let through = ranks.chain x z y in
         grind arith;
-    alike = λ x y z e.
+    congr = λ x y z e.
         let xyz = ranks.chain x y z in
         let yxz = ranks.chain y x z in
         let zxy = ranks.chain z x y in
@@ -117,13 +115,23 @@ module _ (good : OrderTerms → OrderTerms → Bool) (laws : Laws good) where
       chain = λ x y z. chain (terms x) (terms y) (terms z) (place x) (place y) (place z);
     }
 
-    pub total : IsTotalOrder (λ (x y : X) (r : Ordering). r ≡ compared x y)
+    pub total : IsTotalOrder compared
     total = total_from_ranks earlier ranked
 
     -- what a sort by it ensures
-    pub sorted : (xs : List X) (n : ℕ) → IsSortedWithin (λ x y. is_lt (total.cmp x y)) xs 0 n → IsSortedWithin earlier xs 0 n
-    unfolding total total_from_ranks
-    sorted xs n up k d l h =
+    pub sorted : (xs : List X) → IsSorted compared xs → IsSortedBy earlier xs
+    sorted xs up k d l h =
         let x = get_or xs (k + 1) d in
         let y = get_or xs k d in
         sym (less_is (earlier x y) (earlier y x)) ∙ up k d l h
+
+    -- ---- the laws of its comparisons
+
+    pub alike_laws : IsEquivalence (eq_by_cmp compared)
+    alike_laws = eq_by_cmp_equiv total
+
+    pub equal_laws : IsPartialEquivalence (eq_by_cmp compared)
+    equal_laws = partial_equiv_from_equiv alike_laws
+
+    pub partial_laws : IsPartialOrder (eq_by_cmp compared) (as_partial_cmp compared)
+    partial_laws = po total (λ x y. refl)
