@@ -3,7 +3,7 @@ use Rattle.std.specs.Prelude.{ℕ, List, []}
 use Rattle.market.specs.declared.order.OrderTerms.{OrderTerms}
 use Rattle.market.specs.Ranges.{cents_of, collar_highest, collar_lowest, reference_highest, reference_lowest, twice_middle}
 use Rattle.book.specs.Lists.{joined}
-use Rattle.auction.specs.declared.book.AuctionBook.{AuctionBook}
+use Rattle.auction.specs.declared.auction_book.AuctionBook.{AuctionBook}
 use Rattle.auction.specs.declared.stage.Progress.{Progress}
 use Rattle.auction.specs.declared.stage.Open.{Open}
 use Rattle.auction.specs.declared.stage.Locked.{Locked}

@@ -4,7 +4,7 @@ use Rattle.std.proofs.Common.{arith}
 use Rattle.std.specs.List.{remove}
 use Rattle.market.specs.declared.order.OrderTerms.{OrderTerms}
 use Rattle.cross.specs.Fills.{at_place}
-use Rattle.auction.specs.declared.book.AuctionBook.{AuctionBook}
+use Rattle.auction.specs.declared.auction_book.AuctionBook.{AuctionBook}
 
 -- the orders in the book, in order of acceptance
 abbrev pub accepted : AuctionBook → List OrderTerms

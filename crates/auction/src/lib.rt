@@ -6,7 +6,7 @@
 #![tactic(auto)]
 
 pub mod answer;
-pub mod book;
+pub mod auction_book;
 pub mod schedule;
 mod settlement;
 pub mod stage;

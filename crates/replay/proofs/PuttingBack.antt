@@ -5,7 +5,7 @@ use Rattle.market.specs.declared.event.Event.{Event}
 use Rattle.market.specs.declared.order.OrderTerms.{OrderTerms}
 use Rattle.cross.specs.declared.allotment.Allotment.{Allotment}
 use Rattle.replay.specs.declared.answer.Answer.{Answer}
-use Rattle.auction.specs.declared.book.AuctionBook.{AuctionBook}
+use Rattle.auction.specs.declared.auction_book.AuctionBook.{AuctionBook}
 use Rattle.replay.specs.declared.held.Held.{Held}
 use Rattle.replay.specs.Performing.{Done, held_auction, performed, reply}
 

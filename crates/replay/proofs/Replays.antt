@@ -8,7 +8,7 @@ use Rattle.market.specs.declared.order.OrderTerms.{OrderTerms}
 use Rattle.market.specs.declared.refusal.Refusal.{Refusal}
 use Rattle.cross.specs.Rankings.{Laws}
 use Rattle.cross.specs.declared.allotment.Allotment.{Allotment}
-use Rattle.auction.specs.declared.book.AuctionBook.{AuctionBook}
+use Rattle.auction.specs.declared.auction_book.AuctionBook.{AuctionBook}
 use Rattle.replay.specs.declared.held.Held.{Held}
 use Rattle.replay.specs.declared.held.Held.TheVariants.{Empty, Open, Locked, Shut, Crossed}
 use Rattle.replay.specs.declared.step.Step.{Step}

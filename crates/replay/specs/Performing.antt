@@ -8,7 +8,7 @@ use Rattle.replay.specs.declared.answer.Answer.{Answer}
 use Rattle.replay.specs.declared.answer.Answer.TheVariants.{Refused, Entered, Cancelled, Quoted, Published, Moved, Crossed}
 use Rattle.auction.specs.declared.answer.Figures.{Figures}
 use Rattle.auction.specs.declared.answer.Outcome.{Outcome}
-use Rattle.auction.specs.declared.book.AuctionBook.{AuctionBook}
+use Rattle.auction.specs.declared.auction_book.AuctionBook.{AuctionBook}
 use Rattle.replay.specs.declared.held.Held.{Held}
 use Rattle.replay.specs.declared.held.Held.TheVariants as held
 use Rattle.auction.specs.Auctions.{Auction, Stage, crossed_auction, in_crossed, in_locked, in_none, in_open, in_shut, locked_auction, open_auction, shut_auction}

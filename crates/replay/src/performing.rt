@@ -8,7 +8,7 @@ ghost use Rattle.replay.specs.Performing.{Does, DoesWith, held_auction, performe
 
 use crate::answer::Answer;
 use crate::held::Held;
-use auction::book::AuctionBook;
+use auction::auction_book::AuctionBook;
 use auction::stage::{Locked, Open, Shut};
 use book::Book;
 use cross::allotment::Allotment;

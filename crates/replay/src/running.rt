@@ -13,7 +13,7 @@ use crate::answer::Answer;
 use crate::held::Held;
 use crate::step::{Failure, Step};
 use crate::stepping::perform;
-use auction::book::AuctionBook;
+use auction::auction_book::AuctionBook;
 use auction::stage::{Open, start};
 use book::Book;
 use cross::allotment::Allotment;

@@ -14,7 +14,7 @@ use crate::performing::{
     quote_locked, quote_open, quote_shut, shut_locked,
 };
 use crate::step::Step;
-use auction::book::AuctionBook;
+use auction::auction_book::AuctionBook;
 use auction::stage::{Locked, Open, Shut};
 use book::Book;
 use cross::allotment::Allotment;

@@ -8,7 +8,7 @@ ghost use Rattle.replay.specs.Runs.{after, answers, asked, first_state};
 ghost use Rattle.session.specs.Records.{events_in, orders_in};
 ghost use Rattle.run_report.specs.Sessions.{asked_with, filed_orders, ranking_of};
 
-use auction::book::AuctionBook;
+use auction::auction_book::AuctionBook;
 use book::Book;
 use cross::allotment::Allotment;
 use cross::ranking::{ByDisplay, ByShares, Ranking};

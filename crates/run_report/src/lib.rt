@@ -11,7 +11,7 @@ ghost use Rattle.run_report.specs.Text.{Reports, first_line, refused_line, sessi
 use crate::answers::push_answers;
 use crate::events::answers_of;
 use crate::line::push_line;
-use auction::book::MOST_ACCEPTED;
+use auction::auction_book::MOST_ACCEPTED;
 use cross::allotment::Allotment;
 use market::refusal::Refusal;
 use session::file::{LARGEST_FILE, SessionFile, read};

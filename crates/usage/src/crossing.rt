@@ -9,7 +9,7 @@ ghost use Rattle.auction.specs.Refusing.{first_cause, refusal, verdict_back};
 ghost use Rattle.usage.specs.Repeating.{first_after, second_after};
 
 use auction::answer::Outcome;
-use auction::book::AuctionBook;
+use auction::auction_book::AuctionBook;
 use auction::stage::{Crossed, Shut};
 use book::Book;
 use cross::allotment::Allotment;

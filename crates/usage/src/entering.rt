@@ -6,7 +6,7 @@ ghost use Rattle.auction.specs.Auctions.{locked_auction, open_auction};
 ghost use Rattle.auction.specs.Changing.{cancelled, entered, withdrawn};
 ghost use Rattle.auction.specs.Refusing.{call_cause, refusal, verdict};
 
-use auction::book::AuctionBook;
+use auction::auction_book::AuctionBook;
 use auction::stage::{Locked, Open};
 use market::order::Order;
 use market::refusal::Refusal;

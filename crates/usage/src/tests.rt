@@ -1,7 +1,7 @@
 //! Calls whose outcome no session file can show.
 
 use auction::answer::Outcome;
-use auction::book::AuctionBook;
+use auction::auction_book::AuctionBook;
 use auction::stage::{Locked, Open, Shut, start};
 use book::Book;
 use cross::allotment::Allotment;

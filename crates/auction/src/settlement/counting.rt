@@ -6,7 +6,7 @@ ghost use Rattle.auction.specs.Rows.{accepted};
 ghost use Rattle.auction.specs.Settling.{WithinShares, ends, if_here, releases, settled_by};
 
 use super::Settlement;
-use crate::book::AuctionBook;
+use crate::auction_book::AuctionBook;
 use book::Book;
 use cross::allotment::Allotment;
 

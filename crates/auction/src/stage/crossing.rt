@@ -8,7 +8,7 @@ ghost use Rattle.auction.specs.Rows.{accepted};
 
 use super::Progress;
 use crate::answer::Outcome;
-use crate::book::AuctionBook;
+use crate::auction_book::AuctionBook;
 use crate::settlement::Settlement;
 use book::Book;
 use book::joined::Joined;

@@ -6,7 +6,7 @@ ghost use Rattle.auction.specs.Refusing.{beyond, first_of, outside, refusal, ver
 ghost use Rattle.auction.specs.Rows.{accepted, most_accepted};
 
 use super::Progress;
-use crate::book::{AuctionBook, MOST_ACCEPTED};
+use crate::auction_book::{AuctionBook, MOST_ACCEPTED};
 use book::Book;
 use market::order::{Order, OrderPrice, Side};
 use market::range::PriceRange;

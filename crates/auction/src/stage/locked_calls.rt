@@ -10,7 +10,7 @@ ghost use Rattle.auction.specs.Refusing.{call_cause, refusal, verdict, verdict_b
 
 use super::{Locked, Shut};
 use crate::answer::Figures;
-use crate::book::AuctionBook;
+use crate::auction_book::AuctionBook;
 use crate::schedule::{DAY_END, SHUT_TIME};
 use book::Book;
 use market::order::Order;

@@ -8,7 +8,7 @@ ghost use Rattle.auction.specs.Changing.{cancelled, entered, moved, quoted, with
 ghost use Rattle.auction.specs.Refusing.{call_cause, refusal, verdict, verdict_back};
 
 use super::{Locked, Open};
-use crate::book::AuctionBook;
+use crate::auction_book::AuctionBook;
 use crate::schedule::{DAY_END, LOCK_TIME};
 use market::order::{Order, lawful_shares};
 use market::quote::Quote;

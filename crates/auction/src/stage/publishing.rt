@@ -9,7 +9,7 @@ ghost use Rattle.auction.specs.Rows.{accepted};
 
 use super::Progress;
 use crate::answer::Figures;
-use crate::book::AuctionBook;
+use crate::auction_book::AuctionBook;
 use crate::schedule::DAY_END;
 use book::Book;
 use book::joined::Joined;

@@ -11,7 +11,7 @@ ghost use Rattle.auction.specs.Refusing.{call_cause, first_cause, refusal, verdi
 
 use super::{Crossed, Shut};
 use crate::answer::{Figures, Outcome};
-use crate::book::AuctionBook;
+use crate::auction_book::AuctionBook;
 use crate::schedule::{CROSS_TIME, DAY_END};
 use book::Book;
 use cross::allotment::Allotment;

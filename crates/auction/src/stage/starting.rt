@@ -6,7 +6,7 @@ ghost use Rattle.auction.specs.Auctions.{open_auction, started};
 ghost use Rattle.auction.specs.Refusing.{first_of, refusal, verdict};
 
 use super::{Open, Progress};
-use crate::book::AuctionBook;
+use crate::auction_book::AuctionBook;
 use market::price::Price;
 use market::quote::Quote;
 use market::refusal::Refusal;

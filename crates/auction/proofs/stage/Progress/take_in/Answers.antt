@@ -10,5 +10,5 @@ returns-in_err-check_time c =
     let h =
     for_its_time c.in_err-check_time.field-0.0 (ltb c.args.time c.args.self.now.last_time) (outside 0 c.args.end c.args.time) _
     c.in_err-check_time.ensures in
-    let p = err_from_is_err_and c.from-residual.result c.from-residual.ensures.1 in
+    let p = err_from_is_err_and c.from_residual.result c.from_residual.ensures.1 in
     rw (p.1, p.2) (record { cause = h; after = (refl, refl) })

@@ -1,6 +1,6 @@
 use Rattle.std.proofs.Common.{◌≡◌, drop}
 use Rattle.auction.specs.Rows.{accepted, place_from, place_of}
-use Rattle.auction.proofs.book.AuctionBook.find.Given as goal
+use Rattle.auction.proofs.auction_book.AuctionBook.find.Given as goal
 
 -- what is left of the book gives the answer
 abbrev pub invariant-loop-i : goal.invariant-loop-i

@@ -3,7 +3,7 @@ use Rattle.std.proofs.Common.{◌<◌, length, vec_items, vec_len, sym, subst, a
 use Rattle.std.proofs.lemmas.List.{get_or_read}
 use Rattle.market.specs.Orders.{Sound}
 use Rattle.cross.specs.Fills.{no_order}
-use Rattle.auction.proofs.book.listing.AuctionBookBook.order.Goals as goal
+use Rattle.auction.proofs.auction_book.listing.AuctionBookBook.order.Goals as goal
 
 pub invariant_of-result : goal.invariant_of-result
 invariant_of-result c =
@@ -11,4 +11,6 @@ invariant_of-result c =
     let i = c.args.place in
     let h : i < vec_len v = omega (arith, c.len.ensures, c.if-place-len.false) in
     let l : i < length (vec_items v) = omega (arith, h, v.ok.0) in
-    (subst Sound (sym (get_or_read (vec_items v) i c.index.result.now l c.index.ensures no_order)) (c.args.self.now.sound i h), tt)
+    record {
+      lawful = subst Sound (sym (get_or_read (vec_items v) i c.index.result.now l c.index.ensures no_order)) (c.args.self.now.sound i h);
+    }

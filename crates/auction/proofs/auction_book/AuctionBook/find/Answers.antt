@@ -1,7 +1,7 @@
 -- What is left of the book gives the answer, at each row and at the end.
 use Rattle.std.proofs.Common.{sym, ◌∙◌, arith}
 use Rattle.auction.proofs.FindOrder.{further, here, past}
-use Rattle.auction.proofs.book.AuctionBook.find.Goals as goal
+use Rattle.auction.proofs.auction_book.AuctionBook.find.Goals as goal
 
 pub returns-then-row-entry_number : goal.returns-then-row-entry_number
 returns-then-row-entry_number c =
