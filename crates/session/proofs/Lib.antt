@@ -1,7 +1,6 @@
 pub mod Checks
 pub mod Sixteen
 pub mod FieldFacts
-pub mod FieldSteps
 pub mod RecordLists
 pub mod RecordSteps
 pub mod FiledRecords

@@ -1,15 +1,12 @@
 -- What a reading hands out is what the bytes say: the step from the layout theorem to the reader's promise.
 use Rattle.std.proofs.Common.{◌≡◌, ℕ, ◌+◌, ◌*◌, true, false, cond, List, [], length, take, drop, Some, None, sym, ap, ◌∙◌, subst, arith}
-use Rattle.std.proofs.lemmas.Bool.{eqb-true}
 use Rattle.market.specs.declared.refusal.Refusal.{Refusal}
 use Rattle.market.specs.Causes.{cause}
-use Rattle.market.specs.Prices.{LawfulPrice}
 use Rattle.session.specs.declared.body.BodyKind.{BodyKind}
 use Rattle.session.specs.declared.body.BodyKind.TheVariants.{Heading, Resting, Events, Note}
 use Rattle.session.specs.declared.file.SessionFile.{SessionFile}
 use Rattle.session.specs.declared.heading.Heading as heading
-use Rattle.session.specs.declared.field.Values.TheVariants.{Ranking}
-use Rattle.session.specs.Fields.{admits, byte, four, two}
+use Rattle.session.specs.Fields.{byte, four, two}
 use Rattle.session.specs.Contents.{body, mask, present, rank, start}
 use Rattle.session.specs.Faults.{bad_field, fault, fits}
 use Rattle.session.specs.Layout.{KeepsLayout, session_of}
@@ -18,7 +15,6 @@ use Rattle.session.specs.Records.{events_in, orders_in}
 use Rattle.session.proofs.Acceptance.{accepted}
 use Rattle.session.proofs.Bodies.{length_body}
 use Rattle.session.proofs.FirstCauses.{first_field, first_length}
-use Rattle.session.proofs.HeadingRecord.{heading_kept}
 use Rattle.session.proofs.LayoutTheorem.{layout_kept, layout_read, same_session}
 
 -- each body of an accepted file has a length of its kind, and no bad field
@@ -29,12 +25,6 @@ body_fits file kind bs e q =
 
 pub body_clean : (file : List ℕ) (kind : BodyKind) (bs : List ℕ) → fault file ≡ None → bs ≡ body file kind → bad_field kind bs ≡ None
 body_clean file kind bs e q = ap (bad_field kind) q ∙ (accepted file e).clean kind
-
--- the heading names a price and a ranking
-pub heading_lawful : (file bs : List ℕ) → fault file ≡ None → bs ≡ body file Heading → LawfulPrice (four bs 0) × (admits Ranking (byte bs 4) ≡ true)
-heading_lawful file bs e q =
-    let kept = heading_kept bs (eqb-true (length bs) 8 (body_fits file Heading bs e q)) (body_clean file Heading bs e q) in
-    (kept.1, kept.2)
 
 if_present_same : {X : Type 0} (said : List ℕ → X) (kind : BodyKind) (file f bs : List ℕ) → f ≡ file → bs ≡ body file kind
     → if_present f kind (said bs) ≡ cond (present file kind) (Some (said (body file kind))) None

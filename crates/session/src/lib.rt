@@ -6,6 +6,7 @@
 #![tactic(auto)]
 
 pub mod body;
+pub mod event;
 pub mod events;
 mod field;
 pub mod file;

@@ -6,4 +6,4 @@ use Rattle.session.proofs.body.layers.length_fits.Goals as goal
 pub returns : goal.returns
 returns c =
     c.fits.ensures
-    ∙ fits_told c.args.file.now c.args.kind c.body-of.result c.requires c.body-of.ensures.kind c.body-of.ensures.bytes
+    ∙ fits_told c.args.file.now c.args.kind c.body_of.result c.requires c.body_of.ensures.kind c.body_of.ensures.bytes

@@ -6,11 +6,11 @@ use Rattle.session.proofs.EventRecords.{event_sound}
 use Rattle.session.proofs.FiledRecords.{filed_event}
 use Rattle.session.proofs.events.FiledEvents.filed.Goals as goal
 
-pub overflow-mul-place : goal.overflow-mul-place
-overflow-mul-place c = let lies = filed_event c.args.self.now c.args.place c.requires in omega (arith, lies.inside)
+pub overflow_mul-place : goal.overflow_mul-place
+overflow_mul-place c = let lies = filed_event c.args.self.now c.args.place c.requires in omega (arith, lies.inside)
 
-pub event-at-requires : goal.event-at-requires
-event-at-requires c =
+pub event_at-requires : goal.event_at-requires
+event_at-requires c =
     let lies = filed_event c.args.self.now c.args.place c.requires in
     (lies.inside, lies.clean)
 

@@ -7,8 +7,8 @@ use Rattle.session.specs.Records.{call_with, entered}
 use Rattle.session.proofs.EventRecords.{event_sound}
 use Rattle.session.proofs.events.listing.event_at.Goals as goal
 
-pub invariant-of-event : goal.invariant-of-event
-invariant-of-event c =
+pub invariant_of-event : goal.invariant_of-event
+invariant_of-event c =
     let bs = c.args.bytes.now in
     let at = c.args.at in
     let f = byte bs (at + 5) in
@@ -16,8 +16,8 @@ invariant-of-event c =
     let a = four bs (at + 8) in
     let b = four bs (at + 12) in
     let sound : Sound (entered f n a b) = subst (λ k. SoundCall (call_with k f n a b)) c.in-1.is (event_sound bs at c.requires.1).1 in
-    let terms : c.entered-terms-terms.result ≡ entered f n a b
-    = c.entered-terms-terms.ensures
-    ∙ (ap (λ m. entered f m c.four-at-first.result c.four-at-second.result) c.two-at-number.ensures
-    ∙ (ap (λ m. entered f n m c.four-at-second.result) c.four-at-first.ensures ∙ ap (λ m. entered f n a m) c.four-at-second.ensures)) in
-    (subst Sound (sym terms) sound, tt)
+    let terms : c.entered_terms-terms.result ≡ entered f n a b
+    = c.entered_terms-terms.ensures
+    ∙ (ap (λ m. entered f m c.four_at-first.result c.four_at-second.result) c.two_at-number.ensures
+    ∙ (ap (λ m. entered f n m c.four_at-second.result) c.four_at-first.ensures ∙ ap (λ m. entered f n a m) c.four_at-second.ensures)) in
+    record { lawful = subst Sound (sym terms) sound }

@@ -12,5 +12,5 @@ returns-in-Some c =
 pub loop-k-preserved : goal.loop-k-preserved
 loop-k-preserved c =
     first_from_more c.args.self c.args.bytes.now c.size-size.result c.loop-k.k None
-    c.size-size.ensures (omega arith) c.in-default.ensures
+    c.size-size.ensures (omega arith) c.in_default.ensures
     ∙ c.loop-k.invariant

@@ -3,11 +3,11 @@ use Rattle.std.proofs.Common.{◌∙◌, arith}
 use Rattle.session.proofs.FiledRecords.{filed_order}
 use Rattle.session.proofs.resting.FiledBook.filed.Goals as goal
 
-pub overflow-mul-place : goal.overflow-mul-place
-overflow-mul-place c = let lies = filed_order c.args.self.now c.args.place c.requires in omega (arith, lies.inside)
+pub overflow_mul-place : goal.overflow_mul-place
+overflow_mul-place c = let lies = filed_order c.args.self.now c.args.place c.requires in omega (arith, lies.inside)
 
-pub order-at-requires : goal.order-at-requires
-order-at-requires c =
+pub order_at-requires : goal.order_at-requires
+order_at-requires c =
     let lies = filed_order c.args.self.now c.args.place c.requires in
     (lies.inside, lies.clean)
 
