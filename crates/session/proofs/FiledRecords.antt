@@ -1,6 +1,6 @@
 -- A body's records by place: how many there are, that none of them has a bad field, and what each says.
 use Rattle.std.proofs.Common.{◌≡◌, ℕ, zero, suc, ◌+◌, ◌*◌, ◌/◌, ◌<◌, ◌≤◌, false, List, map, length, get_or, is_some, None, sym, mul-le-mul_left, mul-zero, mul-one, mul-add, arith}
-use native.Mathlib.Nat.{mul-div-le}
+use Rattle.std.proofs.Math.Nat.{mul-div-le}
 use Rattle.std.proofs.lemmas.List.FromFn.{get_or-map-range_with_len, length-map-range_with_len}
 use Rattle.std.specs.List.{range_with_len}
 use Rattle.session.specs.declared.events.FiledEvents.{FiledEvents}

@@ -1,7 +1,7 @@
 -- What a mask of bodies says, where it is at most 15: tests that antt computes at each of the 16 masks, and a mask
 -- that is made of the presence of each body.
 use Rattle.std.proofs.Common.{◌≡◌, ℕ, ◌+◌, ◌*◌, ◌<◌, ◌≤◌, Bool, true, false, cond, not, ◌||◌, eqb, ltb, refl, ap, arith}
-use lib.Count.{ones, ones_in}
+use Rattle.std.specs.Int.Count.{ones, ones_in}
 use Rattle.std.proofs.lemmas.Bool.Decides.{nat_tests}
 use Rattle.session.specs.declared.body.BodyKind.{BodyKind}
 use Rattle.session.specs.declared.body.BodyKind.TheVariants.{Heading, Resting, Events, Note}

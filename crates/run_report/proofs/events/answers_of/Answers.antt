@@ -23,13 +23,13 @@ unreachable-requires-in-AnswersShort c =
     let steps = c.push_steps.new.steps in
     let count = as_many c.args.resting (vec_items steps) es c.push_steps.ensures in
     let l = c.args.heading.last_sale.cents in
-    let short = subst (Fails l (length c.deref.result.now) (length c.deref-mut.result.now)) c.in-AnswersShort.is c.in-Err.ensures in
+    let short = subst (Fails l (length c.deref.result.now) (length c.deref_mut.result.now)) c.in-AnswersShort.is c.in-Err.ensures in
     omega (
       arith,
       count,
       short,
       ap length c.deref.ensures.value,
-      c.deref-mut.ensures.len,
+      c.deref_mut.ensures.len,
       c.in_ok-given.ensures.len,
       c.count-2.ensures,
     )
@@ -47,7 +47,7 @@ returns c =
     let count = as_many c.args.resting (vec_items steps) es c.push_steps.ensures in
     let calls : map (asked filed_orders) c.deref.result.now ≡ map (asked_with (filed_orders c.args.resting)) es
     = ap (λ (xs : List (Step FiledBook)). map (asked filed_orders) xs) c.deref.ensures.value ∙ c.push_steps.ensures in
-    let same : length ws ≡ v.len = omega (arith, c.replay_by.auto.given, c.deref-mut.ensures.len) in
+    let same : length ws ≡ v.len = omega (arith, c.replay_by.auto.given, c.deref_mut.ensures.len) in
     let all : length ws ≤ n
     = omega (arith, same, count, ap length c.deref.ensures.value, c.in_ok-given.ensures.len, c.count-2.ensures) in (
       ap (λ (xs : List Answer). map reply xs) (with_items_is v ws same)

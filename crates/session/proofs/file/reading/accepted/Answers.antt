@@ -1,20 +1,11 @@
 -- The bodies of an accepted file are handed out as what they were found to be.
-use Rattle.std.proofs.Common.{sym, refl, ap, ◌∙◌, arith}
+use Rattle.std.proofs.Common.{sym, refl, ap, ◌∙◌}
 use Rattle.session.specs.declared.body.BodyKind.TheVariants.{Resting, Events}
 use Rattle.session.specs.Fields.{byte, four}
 use Rattle.session.proofs.Checks.{none_some}
 use Rattle.session.proofs.FiledRecords.{length_events, length_orders}
-use Rattle.session.proofs.Readings.{accepts, body_clean, body_fits, heading_lawful}
+use Rattle.session.proofs.Readings.{accepts, body_clean, body_fits}
 use Rattle.session.proofs.file.reading.accepted.Goals as goal
-
-pub invariant_of-last_sale : goal.invariant_of-last_sale
-invariant_of-last_sale c =
-    let lawful = heading_lawful c.args.file.now c.part-heading.result.now c.requires c.part-heading.ensures in
-    record { lawful = (omega (arith, lawful.0, c.four_at.ensures), omega (arith, lawful.0, c.four_at.ensures)) }
-
-pub invariant_of-result : goal.invariant_of-result
-invariant_of-result c =
-    record { named = (heading_lawful c.args.file.now c.part-heading.result.now c.requires c.part-heading.ensures).1 }
 
 pub invariant_of-result-2 : goal.invariant_of-result-2
 invariant_of-result-2 c =
