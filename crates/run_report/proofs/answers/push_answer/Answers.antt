@@ -13,13 +13,13 @@ returns-in-Published c =
     (λ x p. told c.args.list.now c.args.place _ c.args.answer _ (string_bytes c.args.text.now) _ _ c.in_ok-push_event.ensures c.columns_of.ensures c.in-Published.is p)
     c.push_info.ensures
 
-pub returns-in_ok-push_fills : goal.returns-in_ok-push_fills
-returns-in_ok-push_fills c =
+pub returns-in_ok-push_fills-in-Crossed : goal.returns-in_ok-push_fills-in-Crossed
+returns-in_ok-push_fills-in-Crossed c =
     let list = c.args.list.now in
     let o = c.in-Crossed.outcome in
     let mid = string_bytes c.push_event.new.text in
     let fills = flat_map fill_line (take o.records list) in
-    let filled = c.in_ok-push_fills.ensures ∙ ap (λ rs. mid ++ flat_map fill_line rs) c.first_of.ensures in
+    let filled = c.in_ok-push_fills-in-Crossed.ensures ∙ ap (λ rs. mid ++ flat_map fill_line rs) c.first_of.ensures in
     IfOk-weaker c.push_left.result _ _
     (λ x p.
     told list c.args.place _ c.args.answer _ (string_bytes c.args.text.now) _ _ c.in_ok-push_event.ensures c.columns_of.ensures c.in-Crossed.is
