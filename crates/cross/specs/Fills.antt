@@ -8,7 +8,7 @@ use Rattle.market.specs.declared.order.OrderTerms.{OrderTerms}
 use Rattle.cross.specs.Depth.{counts_at}
 use Rattle.cross.specs.Rankings.{same_side}
 
--- what `get_or` gives past the end of a list
+-- what `slice_index_or` gives past the end of a list
 abbrev pub no_order : OrderTerms
 no_order = record { side = Buy; price = Market; shares = 0; entry = 0; displayed = false; stays = false }
 

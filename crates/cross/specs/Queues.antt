@@ -2,7 +2,7 @@
 use Rattle.std.specs.Prelude.{◌≡◌, ℕ, ◌-◌, min, Bool, true, cond, not, ◌&&◌, ◌||◌, List, [], ◌∷◌, map, length, set, nat_lt}
 use Rattle.std.specs.declared.cmp.Ordering.TheVariants.{Less, Equal, Greater}
 use Rattle.std.specs.declared.cmp.Ordering.{Ordering}
-use Rattle.std.specs.List.{range_with_len, AllByRecursion as All}
+use Rattle.std.specs.List.{range_with_len, AllByRecursion}
 use Rattle.market.specs.declared.order.Side.{Side}
 use Rattle.market.specs.declared.order.OrderTerms.{OrderTerms}
 use Rattle.cross.specs.declared.allotment.Allotment.{Allotment}
@@ -29,7 +29,7 @@ module _ {X : Type 0} (terms : X → OrderTerms) (place slot : X → ℕ) where
   pub record Queue (side : Side) (os : List OrderTerms) (n : ℕ) (queue : List X) : Type 0 where
     pub places : map place queue ≡ side_places side os n
     pub slots : map slot queue ≡ range_with_len 0 (length queue)
-    pub orders : All (λ q. (terms q ≡ at_place os (place q)) × (same_side side (terms q).side ≡ true)) queue
+    pub orders : AllByRecursion (λ q. (terms q ≡ at_place os (place q)) × (same_side side (terms q).side ≡ true)) queue
 
   -- what a list holds once e shares are given out along the queue, to each order what it asks for while they last
   abbrev pub given_out : (ask : OrderTerms → ℕ) → List X → (e : ℕ) → List Allotment → List Allotment

@@ -1,7 +1,7 @@
 //! Giving out the shares that execute at a price.
 
 ghost use Rattle.std.specs.Prelude.{◌≡◌, ◌<◌, ◌≤◌, List, ◌++◌, length, drop};
-ghost use Rattle.std.specs.List.{AllByRecursion as All};
+ghost use Rattle.std.specs.List.{AllByRecursion};
 ghost use Rattle.market.specs.declared.order.OrderTerms.{OrderTerms};
 ghost use Rattle.market.specs.declared.order.Side.{Side as SideOf};
 ghost use Rattle.cross.specs.Allotments.{side_allotments};
@@ -47,7 +47,7 @@ fn give_out<R>(
     queue: &[Queued<R>],
     list: &mut [Allotment],
 )
-    requires { All (λ q. (q.slot < length list.old) × (q.slot < 4096)) queue.now }
+    requires { AllByRecursion (λ q. (q.slot < length list.old) × (q.slot < 4096)) queue.now }
     ensures { list.new ≡ given_out (λ q. q.order.terms) (λ q. q.place) (λ q. q.slot) (asks range.lowest.cents range.highest.cents price) queue.now executed list.old }
 {
     let mut left = executed;
@@ -69,7 +69,7 @@ pub(crate) fn serve<R: Ranking>(
     queue: &mut [Queued<R>],
     list: &mut [Allotment],
 )
-    requires { All (λ q. (q.slot < length list.old) × (q.slot < 4096)) queue.old }
+    requires { AllByRecursion (λ q. (q.slot < length list.old) × (q.slot < 4096)) queue.old }
     ensures { (side : SideOf) (os : List OrderTerms) → Queue (λ q. q.order.terms) (λ q. q.place) (λ q. q.slot) side os (length os) queue.old → length queue.old ≤ length list.old → list.new ≡ side_allotments side os (fill range.lowest.cents range.highest.cents R.Ranking.good os price executed) (length os) ++ drop (length queue.old) list.old }
 {
     queue.sort_unstable();

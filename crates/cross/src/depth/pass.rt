@@ -22,7 +22,10 @@ impl Depth {
 
     /// With the shares of one order more.
     fn with(self, order: Order, price: u32) -> Depth
-        requires { (self.bought < 4096000000) × ((self.sold < 4096000000) × ((self.bought_above < 4096000000) × (self.sold_below < 4096000000))) }
+        requires bought { self.bought < 4096000000 }
+        requires sold { self.sold < 4096000000 }
+        requires above { self.bought_above < 4096000000 }
+        requires below { self.sold_below < 4096000000 }
         ensures bought { result.bought ≡ self.bought + buy_shares price order.terms }
         ensures sold { result.sold ≡ self.sold + sell_shares price order.terms }
         ensures above { result.bought_above ≡ self.bought_above + buy_shares_above price order.terms }
