@@ -1,7 +1,7 @@
 //! Counting by the records of an allotment list.
 
 ghost use Rattle.std.specs.Prelude.{◌≡◌, ◌+◌, ◌≤◌, length, take};
-ghost use Rattle.std.specs.List.{AllByRecursion as All};
+ghost use Rattle.std.specs.List.{AllByRecursion};
 ghost use Rattle.auction.specs.Rows.{accepted};
 ghost use Rattle.auction.specs.Settling.{WithinShares, ends, if_here, releases, settled_by};
 
@@ -39,7 +39,7 @@ impl Settlement {
     /// Of the records of a cross of the whole book: one look at each.
     fn of(book: &AuctionBook, records: &[Allotment]) -> Settlement
         requires few { length records.now ≤ 4096 }
-        requires within { All (WithinShares (accepted book.now)) records.now }
+        requires within { AllByRecursion (WithinShares (accepted book.now)) records.now }
         ensures { result ≡ settled_by (accepted book.now) records.now }
     {
         let mut settlement = Settlement {
@@ -57,7 +57,7 @@ impl Settlement {
     pub(crate) fn of_first(book: &AuctionBook, list: &[Allotment], records: usize) -> Settlement
         requires room { records ≤ length list.now }
         requires few { records ≤ 4096 }
-        requires within { All (WithinShares (accepted book.now)) (take records list.now) }
+        requires within { AllByRecursion (WithinShares (accepted book.now)) (take records list.now) }
         ensures { result ≡ settled_by (accepted book.now) (take records list.now) }
     {
         Settlement::of(book, &list[0..records])
