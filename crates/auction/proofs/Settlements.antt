@@ -1,6 +1,6 @@
 -- The records of a cross of the whole book settle the auction book as its fills do.
-use Rattle.std.proofs.Common.{◌≡◌, ℕ, zero, suc, ◌+◌, ◌-◌, ◌<◌, ◌≤◌, min, Bool, true, false, cond, ltb, List, [], ◌∷◌, ◌++◌, map, length, get_or, take, fold, sum_by, filter, sym, refl, ap, ◌∙◌, subst, arith}
-use Rattle.std.proofs.ByRecursion.{All-append, All-from_get_or, all_kept_by, All-map}
+use Rattle.std.proofs.Common.{◌≡◌, ℕ, zero, suc, ◌+◌, ◌<◌, ◌≤◌, Bool, true, false, cond, ltb, List, [], ◌∷◌, ◌++◌, map, length, get_or, fold, sum_by, filter, sym, refl, ap, ◌∙◌, subst, arith}
+use Rattle.std.proofs.ByRecursion.{All-append, All-from_get_or, All-map}
 use Rattle.std.proofs.lemmas.List.{get_or_append_left, get_or-take}
 use Rattle.std.proofs.lemmas.List.Sums.{sum_by-append, sum_by-cons}
 use Rattle.std.proofs.lemmas.Bool.{cond-false, cond-true, le-ltb, lt-ltb}
@@ -15,7 +15,6 @@ use Rattle.cross.specs.Allotments.{allotment, allotments, side_allotments, side_
 use Rattle.cross.specs.Fills.{at_place, no_order, places}
 use Rattle.cross.specs.Rankings.{same_side}
 use Rattle.cross.proofs.PlaceSums.{same_sums, sum_of_sums}
-use Rattle.auction.specs.declared.settlement.Settlement.{Settlement}
 use Rattle.auction.specs.Settling.{WithinShares, ends, if_here, releases, settled, settled_by}
 
 -- ---- sums over what a test keeps, over a map, over the first places

@@ -1,5 +1,5 @@
 -- Every order of the auction book is sound: what each write leaves of that.
-use Rattle.std.proofs.Common.{◌≡◌, ℕ, suc, ◌+◌, ◌-◌, ◌<◌, ◌≤◌, List, [], ◌∷◌, ◌++◌, length, get_or, take, drop, set, sym, ap, subst, arith}
+use Rattle.std.proofs.Common.{◌≡◌, ℕ, suc, ◌<◌, List, [], ◌∷◌, ◌++◌, length, take, drop, set, sym, subst, arith}
 use Rattle.std.proofs.ByRecursion.{All-append, All-drop, All-from_get_or, All-get_or, All-push, All-set, All-take}
 use Rattle.std.specs.List.{remove, AllByRecursion as All}
 use Rattle.market.specs.Orders.{Sound}

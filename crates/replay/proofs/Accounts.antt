@@ -1,5 +1,5 @@
 -- No call loses or makes up a share, and so no run does.
-use Rattle.std.proofs.Common.{◌≡◌, ℕ, zero, suc, ◌+◌, ◌-◌, ◌<◌, ◌≤◌, min, Bool, true, false, cond, leb, List, [], ◌∷◌, ◌++◌, length, get_or, take, set, Some, None, sum_by, Option, sym, refl, ap, ◌∙◌, subst, inl, inr, arith}
+use Rattle.std.proofs.Common.{◌≡◌, ℕ, zero, suc, ◌+◌, ◌-◌, ◌<◌, ◌≤◌, min, Bool, true, false, cond, leb, List, [], ◌∷◌, length, take, set, Some, None, sum_by, Option, sym, refl, ap, ◌∙◌, subst, inl, inr, arith}
 use Rattle.std.proofs.ByRecursion.{All-take}
 use Rattle.std.proofs.lemmas.List.{get_or_past}
 use Rattle.std.proofs.lemmas.List.Sums.{sum_by-cons, sum_by_push, sum_by-set}
@@ -7,15 +7,14 @@ use Rattle.std.proofs.lemmas.Bool.{cases_lt, cond_both, leb-false, leb-true}
 use Rattle.std.specs.List.{remove, range_with_len, AllByRecursion as All}
 use Rattle.market.specs.Calls.{Call, enter, cancel, quote, publish, lock, shut, cross}
 use Rattle.market.specs.declared.order.OrderTerms.{OrderTerms}
-use Rattle.book.specs.Lists.{joined}
 use Rattle.cross.specs.Fills.{at_place, no_order, places, willing}
 use Rattle.cross.proofs.PlaceSums.{sum_of_sums, sum_over_list}
-use Rattle.replay.specs.Account.{Account, Balanced, Shares, resting, shares_in, total}
-use Rattle.auction.specs.Auctions.{Auction, collar_high, collar_low, twice, whole}
+use Rattle.replay.specs.Account.{Account, Shares, resting, shares_in, total}
+use Rattle.auction.specs.Auctions.{Auction, collar_high, collar_low, whole}
 use Rattle.auction.specs.Changing.{orders_left, shares_taken}
 use Rattle.auction.specs.Outcomes.{cross_fills, cross_price}
-use Rattle.replay.specs.Performing.{State, Done, Reply, accepted_done, performed, refused_done}
-use Rattle.auction.specs.Rows.{left_at, lowered, most_accepted, place_of, taken_at}
+use Rattle.replay.specs.Performing.{State, Done, Reply, accepted_done, performed}
+use Rattle.auction.specs.Rows.{lowered, place_of, taken_at}
 use Rattle.replay.specs.Runs.{Asked, after, answers, step}
 use Rattle.auction.specs.Settling.{ends, releases, settled}
 use Rattle.replay.proofs.Bounds.{Bounded, Priced, either_way, performed_bounded}

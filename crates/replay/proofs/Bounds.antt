@@ -1,13 +1,13 @@
 -- What holds of every auction of a run: its prices exist, and its book is not over full. So its reference range and its
 -- collar are ranges.
-use Rattle.std.proofs.Common.{◌≡◌, ℕ, suc, ◌+◌, ◌-◌, ◌<◌, ◌≤◌, min, max, Bool, true, false, cond, not, ◌&&◌, ◌||◌, eqb, ltb, leb, List, [], ◌∷◌, ◌++◌, length, take, drop, set, Some, None, Option, sym, refl, ap, ◌∙◌, subst, arith, lit<}
+use Rattle.std.proofs.Common.{◌≡◌, ℕ, suc, ◌+◌, ◌-◌, ◌<◌, ◌≤◌, min, max, Bool, true, false, cond, eqb, leb, List, [], ◌∷◌, length, take, drop, set, Some, None, Option, refl, arith, lit<}
 use Rattle.std.proofs.lemmas.List.{length-append, length-drop, length_push, length-set, length-take}
 use Rattle.std.proofs.lemmas.Bool.{cond_both, eqb-true, leb-false}
 use Rattle.std.proofs.lemmas.Bool.Decides.{nat_tests}
 use Rattle.std.specs.List.{remove, AllByRecursion as All}
 use Rattle.market.specs.Calls.{Call, enter, cancel, quote, publish, lock, shut, cross, call_of}
 use Rattle.market.specs.Prices.{highest_price, lowest_price}
-use Rattle.market.specs.Ranges.{cents_of, collar_highest, collar_lowest, reference_highest, reference_lowest, threshold}
+use Rattle.market.specs.Ranges.{cents_of, reference_highest, reference_lowest}
 use Rattle.market.specs.declared.event.Event.{Event}
 use Rattle.market.specs.declared.event.Event.TheVariants.{Enter, Cancel, Quote, Publish, Lock, Shut, Cross}
 use Rattle.market.specs.declared.order.OrderTerms.{OrderTerms}
@@ -17,7 +17,7 @@ use Rattle.auction.specs.Auctions.{Auction, collar_high, collar_low, range_high,
 use Rattle.auction.specs.Changing.{orders_left}
 use Rattle.replay.specs.Performing.{State, Done, accepted_done, left, performed, refused_done}
 use Rattle.auction.specs.Refusing.{causes, first_cause, first_of}
-use Rattle.auction.specs.Rows.{left_at, lowered, most_accepted, place_of}
+use Rattle.auction.specs.Rows.{lowered, most_accepted, place_of}
 
 pub record Bounded (a : Auction) : Type 0 where
   pub sale : a.last_sale ≤ highest_price

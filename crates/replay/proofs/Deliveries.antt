@@ -1,8 +1,7 @@
 -- Every clearing price with its fills is best and fair, and so is what each call of a run answers and writes.
-use Rattle.std.proofs.Common.{◌≡◌, ℕ, ◌≤◌, Bool, List, [], ◌∷◌, ◌++◌, length, take, sym, refl, ap, ◌∙◌, subst, arith}
+use Rattle.std.proofs.Common.{◌≡◌, ℕ, ◌≤◌, Bool, List, [], ◌∷◌, ◌++◌, length, sym, refl, ◌∙◌, subst, arith}
 use Rattle.std.proofs.ByRecursion.{All-take}
 use Rattle.std.proofs.lemmas.List.{take_at}
-use Rattle.std.specs.List.{AllByRecursion as All}
 use Rattle.market.specs.Calls.{Call, enter, cancel, quote, publish, lock, shut, cross}
 use Rattle.market.specs.declared.order.OrderTerms.{OrderTerms}
 use Rattle.cross.specs.Clearing.{clearing_price}
@@ -16,7 +15,7 @@ use Rattle.cross.specs.RankingLaws.{display_laws}
 use Rattle.auction.specs.Auctions.{Auction, collar_high, collar_low, range_high, range_low, twice, whole}
 use Rattle.auction.specs.Outcomes.{cross_fills, cross_price, list_after, outcome}
 use Rattle.replay.specs.Performing.{State, Done, accepted_done, performed}
-use Rattle.replay.specs.Promises.{BestAndFair, BestPrice, CrossKept, EveryCallKept, EveryClearing, Kept, PublishKept}
+use Rattle.replay.specs.Promises.{BestPrice, CrossKept, EveryCallKept, EveryClearing, Kept, PublishKept}
 use Rattle.auction.specs.Publishing.{published}
 use Rattle.replay.specs.Runs.{Asked, after, step}
 use Rattle.replay.proofs.Accounts.{AllPriced, step_bounded}

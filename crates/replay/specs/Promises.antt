@@ -1,5 +1,5 @@
 -- What is promised of every clearing price with its fills, and of the prices and fills that a run answers and writes.
-use Rattle.std.specs.Prelude.{◌≡◌, ℕ, ◌≤◌, Bool, cond, List, ◌∷◌, ◌++◌, length, ◌==◌}
+use Rattle.std.specs.Prelude.{◌≡◌, ℕ, ◌≤◌, Bool, cond, List, ◌∷◌, ◌++◌, ◌==◌}
 use Rattle.market.specs.declared.order.OrderTerms.{OrderTerms}
 use Rattle.cross.specs.declared.allotment.Allotment.{Allotment}
 use Rattle.cross.specs.Allotments.{allotted}
@@ -10,7 +10,7 @@ use Rattle.cross.specs.Rankings.{Laws}
 use Rattle.auction.specs.declared.answer.Figures.{Figures}
 use Rattle.auction.specs.declared.answer.Outcome.{Outcome}
 use Rattle.auction.specs.Auctions.{Auction, collar_high, collar_low, range_high, range_low, twice, whole}
-use Rattle.replay.specs.Performing.{State, Done, Reply, refuses, enters, cancels, quotes, publishes, moves, crosses}
+use Rattle.replay.specs.Performing.{State, Reply, refuses, enters, cancels, quotes, publishes, moves, crosses}
 use Rattle.replay.specs.Runs.{Asked, after, step}
 use Rattle.auction.specs.Settling.{settled}
 

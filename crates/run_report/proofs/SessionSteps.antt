@@ -3,7 +3,6 @@ use Rattle.std.proofs.Common.{◌≡◌, ℕ, ◌+◌, ◌<◌, ◌≤◌, List,
 use Rattle.std.proofs.lemmas.List.{map_more, map_push, take_all}
 use Rattle.market.specs.Calls.{Timed, timed}
 use Rattle.market.specs.declared.event.TimedEvent.{TimedEvent}
-use Rattle.market.specs.declared.order.OrderTerms.{OrderTerms}
 use Rattle.session.specs.declared.resting.FiledBook.{FiledBook}
 use Rattle.replay.specs.declared.step.Step.{Step}
 use Rattle.replay.specs.Runs.{Asked, asked}

@@ -1,8 +1,7 @@
 -- What is run and told is the session that is handed out.
-use Rattle.std.proofs.Common.{◌≡◌, ℕ, Bool, true, false, cond, List, [], ◌++◌, map, Some, None, vec_items, sym, refl, ap, ◌∙◌}
+use Rattle.std.proofs.Common.{◌≡◌, ℕ, Bool, true, false, cond, List, [], ◌++◌, map, Some, None, sym, refl, ap, ◌∙◌}
 use Rattle.market.specs.Calls.{Timed}
 use Rattle.market.specs.declared.order.OrderTerms.{OrderTerms}
-use Rattle.cross.specs.declared.allotment.Allotment.{Allotment}
 use Rattle.session.specs.Contents.{present}
 use Rattle.session.specs.Reading.{handed}
 use Rattle.session.specs.Records.{events_in, orders_in}

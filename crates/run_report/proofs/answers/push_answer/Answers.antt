@@ -1,5 +1,5 @@
 -- The line of the event, and behind it what the answer adds.
-use Rattle.std.proofs.Common.{◌≡◌, ◌++◌, take, string_bytes, ap, ◌∙◌}
+use Rattle.std.proofs.Common.{◌++◌, take, string_bytes, ap, ◌∙◌}
 use Rattle.std.proofs.lemmas.List.{append_assoc}
 use Rattle.std.proofs.lemmas.Result.{IfOk-weaker}
 use Rattle.std.specs.List.{flat_map}

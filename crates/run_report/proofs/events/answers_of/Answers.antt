@@ -1,5 +1,5 @@
 -- There is an answer for each event, and the calls are the events.
-use Rattle.std.proofs.Common.{◌≡◌, ◌≤◌, List, map, length, take, vec_items, sym, ap, ◌∙◌, subst, arith}
+use Rattle.std.proofs.Common.{◌≡◌, ◌≤◌, List, map, length, vec_items, sym, ap, ◌∙◌, subst, arith}
 use Rattle.std.proofs.lemmas.List.{length-map, with_items_is, take_all}
 use Rattle.session.specs.Records.{events_in}
 use Rattle.session.specs.declared.resting.FiledBook.{FiledBook}

@@ -1,5 +1,5 @@
 -- A call that is refused for its time is refused so.
-use Rattle.std.proofs.Common.{ltb, refl, rules}
+use Rattle.std.proofs.Common.{ltb, refl}
 use Rattle.std.proofs.lemmas.Result.{err_from_is_err_and}
 use Rattle.auction.specs.Refusing.{outside}
 use Rattle.auction.proofs.RefusalNumbers.{for_its_time}
