@@ -1,15 +1,16 @@
 #!/usr/bin/env python3
-"""Writes the table of cases that the acceptance program judges, and what it has to print.
+"""Writes the table of sessions whose run the program `run_acceptance` reports, and what it has to print.
 
-    python3 crates/acceptance/table.py
+    python3 crates/run_acceptance/table.py
 
 writes `stdin`, the cases, and `stdout`, the answers, beside this file. The answers come from the reader, the pricing,
 the ranges and the auction below, which follow the description of the format and the rules and share nothing with the
 crates: where the program prints something else, one of the two is wrong, and the description says which.
 
-    target/bin/acceptance < crates/acceptance/stdin | diff - crates/acceptance/stdout
+    cd crates/run_acceptance && rt run < stdin; out/run_acceptance < stdin | diff - stdout
 
-shows where.
+shows where. Of the forms below only that of a report is written here, with lines that look like it; the cases of the
+others stand in the table of the crate `acceptance`, whose reference is the same.
 
 A line of the table is a name, a space and what is asked. NAME has letters, digits and '-', the others have no space in
 them, and one space stands between each two:
