@@ -9,4 +9,5 @@ pub mod depth;
 pub mod fills;
 mod queue;
 pub mod ranking;
+mod serving;
 pub mod worked;
