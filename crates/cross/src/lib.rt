@@ -10,4 +10,6 @@ pub mod fills;
 mod queue;
 pub mod ranking;
 mod serving;
+#[cfg(test)]
+mod tests;
 pub mod worked;

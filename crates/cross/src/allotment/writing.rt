@@ -16,7 +16,7 @@ use market::range::PriceRange;
 use std::marker::PhantomData;
 
 /// Writes a record for each order of a side, by rising place, and answers how many; later records stay.
-fn write_side<B: Book, R: Ranking>(
+pub(crate) fn write_side<B: Book, R: Ranking>(
     book: &B,
     range: PriceRange,
     price: u32,
