@@ -2,19 +2,15 @@
 use Rattle.std.proofs.Common.{◌≡◌, ℕ, ◌+◌, ◌<◌, ◌≤◌, true, false, List, [], ◌∷◌, ◌++◌, length, get_or, take, set, sym, ap, ◌∙◌, subst, arith}
 use Rattle.std.proofs.lemmas.List.FromFn.{get_or-range_with_len}
 use Rattle.std.proofs.ByRecursion.{all_from_every, All-push}
-use Rattle.std.proofs.lemmas.List.{get_or-map, get_or_read, length-map, length_push, length-take-le, map_push, take_more_set}
+use Rattle.std.proofs.lemmas.List.{get_or-map, length-map, length_push, length-take-le, map_push, take_more_set}
 use Rattle.std.specs.List.{range_with_len, AllByRecursion as All}
 use Rattle.market.specs.declared.order.Side.{Side}
 use Rattle.market.specs.declared.order.OrderTerms.{OrderTerms}
 use Rattle.cross.specs.Allotments.{side_places}
-use Rattle.cross.specs.Fills.{at_place, no_order}
+use Rattle.cross.specs.Fills.{at_place}
 use Rattle.cross.specs.Queues.{Queue}
 use Rattle.cross.specs.Rankings.{same_side}
 use Rattle.cross.proofs.Allotting.{counting_more, places_left, places_took, took_length}
-
--- the order that a book answers stands at its place
-pub found_at : (os : List OrderTerms) (i : ℕ) (o : OrderTerms) → i < length os → o ≡ get_or os i o → o ≡ at_place os i
-found_at os i o h e = get_or_read os i o h e no_order
 
 module _ {X : Type 0} (terms : X → OrderTerms) (place slot : X → ℕ) (side : Side) (os : List OrderTerms) where
   abbrev QueueTo : ℕ → List X → Type 0

@@ -1,21 +1,15 @@
-//! Giving out the shares that execute at a price.
+//! The fills of a book at a price.
 
-ghost use Rattle.std.specs.Prelude.{◌≡◌, ◌<◌, ◌≤◌, List, ◌++◌, length, drop};
-ghost use Rattle.std.specs.List.{AllByRecursion};
-ghost use Rattle.market.specs.declared.order.OrderTerms.{OrderTerms};
-ghost use Rattle.market.specs.declared.order.Side.{Side as SideOf};
-ghost use Rattle.cross.specs.Allotments.{side_allotments};
-ghost use Rattle.cross.specs.Fills.{fill, willing};
-ghost use Rattle.cross.specs.Queues.{Queue, asks, given_out};
+ghost use Rattle.std.specs.Prelude.{◌≡◌, ◌<◌, not, ◌&&◌, ◌||◌, if◌then◌else◌, nat_lt};
+ghost use Rattle.cross.specs.Fills.{at_place, fill, shares_ahead, willing};
 
-use crate::allotment::Allotment;
-use crate::queue::Queued;
-use crate::ranking::Ranking;
+use crate::ranking::{Ranking, is_same_side};
+use book::Book;
 use market::order::{Order, OrderPrice, Side};
 use market::range::PriceRange;
 
 /// Whether an order is willing at a price, by its counted price.
-fn is_willing(range: PriceRange, order: Order, price: u32) -> bool
+pub(crate) fn is_willing(range: PriceRange, order: Order, price: u32) -> bool
     ensures { result ≡ willing range.lowest.cents range.highest.cents price order.terms }
 {
     let limit = match range.counted(order).terms.price {
@@ -28,50 +22,69 @@ fn is_willing(range: PriceRange, order: Order, price: u32) -> bool
     }
 }
 
-/// The shares that an order asks for at a price: its own, if it is willing.
-fn asked(range: PriceRange, order: Order, price: u32) -> u32
-    ensures { result ≡ asks range.lowest.cents range.highest.cents price order.terms }
+/// Whether the order `a` at a place is ahead of the order `b` at another: one comparison.
+pub(crate) fn is_ahead<R: Ranking>(a: Order, a_place: usize, b: Order, b_place: usize) -> bool
+    ensures { result ≡ (R.Ranking.good a.terms b.terms && (not (R.Ranking.good b.terms a.terms) || nat_lt a_place b_place)) }
 {
-    if is_willing(range, order, price) {
-        order.terms.shares
+    if a_place < b_place {
+        return R::as_good(a, b);
+    }
+    is_same_side(a.terms.side, b.terms.side) && !R::as_good(b, a)
+}
+
+/// The shares of an order, if it is willing and ahead of another; else 0.
+fn shares_if_ahead<R: Ranking>(
+    range: PriceRange,
+    price: u32,
+    rival: Order,
+    rival_place: usize,
+    order: Order,
+    place: usize,
+) -> u32
+    ensures { result ≡ (if willing range.lowest.cents range.highest.cents price rival.terms && (R.Ranking.good rival.terms order.terms && (not (R.Ranking.good order.terms rival.terms) || nat_lt rival_place place)) then rival.terms.shares else 0) }
+{
+    if is_willing(range, rival, price) && is_ahead::<R>(rival, rival_place, order, place) {
+        rival.terms.shares
     } else {
         0
     }
 }
 
-/// Gives out shares along a queue, to each order what it asks for while they last, and writes its record.
-fn give_out<R>(
+/// The shares of the willing orders ahead of the order at a place: one look at each order.
+fn shares_before<B: Book, R: Ranking>(
+    book: &B,
     range: PriceRange,
     price: u32,
-    executed: u32,
-    queue: &[Queued<R>],
-    list: &mut [Allotment],
-)
-    requires { AllByRecursion (λ q. (q.slot < length list.old) × (q.slot < 4096)) queue.now }
-    ensures { list.new ≡ given_out (λ q. q.order.terms) (λ q. q.place) (λ q. q.slot) (asks range.lowest.cents range.highest.cents price) queue.now executed list.old }
+    order: Order,
+    place: usize,
+) -> u32
+    requires { order.terms ≡ at_place (B.Book.orders book.now) place }
+    ensures { result ≡ shares_ahead range.lowest.cents range.highest.cents R.Ranking.good (B.Book.orders book.now) price place }
 {
-    let mut left = executed;
-    for queued in queue {
-        let fill = asked(range, queued.order, price).min(left);
-        list[queued.slot] = Allotment {
-            place: queued.place,
-            fill,
-        };
-        left -= fill;
+    let mut sum = 0;
+    for other in 0..book.count() {
+        if let Some(rival) = book.order(other) {
+            sum += shares_if_ahead::<R>(range, price, rival, other, order, place);
+        }
     }
+    sum
 }
 
-/// Serves the orders of a side by the ranking: one sort, and one walk along the queue.
-pub(crate) fn serve<R: Ranking>(
+/// The fill of the order at a place, where so many shares execute at the price.
+pub(crate) fn fill_of<B: Book, R: Ranking>(
+    book: &B,
     range: PriceRange,
     price: u32,
     executed: u32,
-    queue: &mut [Queued<R>],
-    list: &mut [Allotment],
-)
-    requires { AllByRecursion (λ q. (q.slot < length list.old) × (q.slot < 4096)) queue.old }
-    ensures { (side : SideOf) (os : List OrderTerms) → Queue (λ q. q.order.terms) (λ q. q.place) (λ q. q.slot) side os (length os) queue.old → length queue.old ≤ length list.old → list.new ≡ side_allotments side os (fill range.lowest.cents range.highest.cents R.Ranking.good os price executed) (length os) ++ drop (length queue.old) list.old }
+    order: Order,
+    place: usize,
+) -> u32
+    requires { order.terms ≡ at_place (B.Book.orders book.now) place }
+    ensures { result ≡ fill range.lowest.cents range.highest.cents R.Ranking.good (B.Book.orders book.now) price executed place }
 {
-    queue.sort_unstable();
-    give_out(range, price, executed, queue, list);
+    if !is_willing(range, order, price) {
+        return 0;
+    }
+    let before = shares_before::<B, R>(book, range, price, order, place);
+    order.terms.shares.min(executed.saturating_sub(before))
 }

@@ -9,4 +9,7 @@ pub mod depth;
 pub mod fills;
 mod queue;
 pub mod ranking;
+mod serving;
+#[cfg(test)]
+mod tests;
 pub mod worked;

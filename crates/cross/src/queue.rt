@@ -1,11 +1,12 @@
 //! The queue of a side's orders, in the sequence in which a ranking serves them.
 
-ghost use Rattle.std.specs.Prelude.{◌≡◌, not, ◌&&◌, ◌||◌, Some, nat_lt, refl};
+ghost use Rattle.std.specs.Prelude.{◌≡◌, Some, refl};
 ghost use Rattle.std.specs.Ordering.{is_eq};
 ghost use Rattle.cross.specs.Queues.{standing, stands_before};
 ghost use Rattle.cross.specs.QueueOrder.{alike_laws, equal_laws, partial_laws, total};
 
-use crate::ranking::{Ranking, is_same_side};
+use crate::fills::is_ahead;
+use crate::ranking::Ranking;
 use market::order::{Order, Side};
 use std::cmp::Ordering;
 use std::marker::PhantomData;
@@ -17,16 +18,6 @@ pub(crate) struct Queued<R> {
     pub place: usize,
     pub slot: usize,
     pub ranking: PhantomData<R>,
-}
-
-/// Whether the order `a` at a place is ahead of the order `b` at another.
-fn is_ahead<R: Ranking>(a: Order, a_place: usize, b: Order, b_place: usize) -> bool
-    ensures { result ≡ (R.Ranking.good a.terms b.terms && (not (R.Ranking.good b.terms a.terms) || nat_lt a_place b_place)) }
-{
-    if a_place < b_place {
-        return R::as_good(a, b);
-    }
-    is_same_side(a.terms.side, b.terms.side) && !R::as_good(b, a)
 }
 
 impl<R: Ranking> Queued<R> {

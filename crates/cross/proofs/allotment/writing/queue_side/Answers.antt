@@ -3,8 +3,9 @@ use Rattle.std.proofs.Common.{◌<◌, ◌≤◌, length, sym, refl, ap, ◌∙�
 use Rattle.market.specs.declared.order.OrderTerms.{OrderTerms}
 use Rattle.cross.specs.declared.queue.Queued.{Queued}
 use Rattle.cross.specs.Rankings.{same_side}
+use Rattle.cross.proofs.AheadSteps.{found_at}
 use Rattle.cross.proofs.Allotting.{places_within, room}
-use Rattle.cross.proofs.Queueing.{found_at, queues_none, queues_one}
+use Rattle.cross.proofs.Queueing.{queues_none, queues_one}
 use Rattle.cross.proofs.allotment.writing.queue_side.Given as given
 use Rattle.cross.proofs.allotment.writing.queue_side.Goals as goal
 use Rattle.cross.proofs.allotment.writing.queue_side.Goals.{in-Some+then-is_same_side, in-Some+else-is_same_side, in_default}

@@ -6,8 +6,8 @@ use Rattle.cross.specs.declared.allotment.Allotment.{Allotment}
 use Rattle.cross.specs.declared.queue.Queued.{Queued}
 use Rattle.cross.specs.Queues.{asks, given_out}
 use Rattle.cross.proofs.GivingOut.{turned}
-use Rattle.cross.proofs.fills.give_out.Given as given
-use Rattle.cross.proofs.fills.give_out.Goals as goal
+use Rattle.cross.proofs.serving.give_out.Given as given
+use Rattle.cross.proofs.serving.give_out.Goals as goal
 
 -- the record of the order that is served is one of the list's
 own_record : (g : given.Over) (c : goal.After-min-fill g) → (c.queued-item.result.slot < length c.args.list.now) × (c.queued-item.result.slot < 4096)

@@ -4,7 +4,7 @@ use Rattle.std.proofs.ByRecursion.{all_shuffled}
 use Rattle.cross.specs.declared.queue.Queued.{Queued}
 use Rattle.cross.specs.QueueOrder.{sorted}
 use Rattle.cross.proofs.SortedQueue.{fills_given}
-use Rattle.cross.proofs.fills.serve.Goals as goal
+use Rattle.cross.proofs.serving.serve.Goals as goal
 
 pub give_out-requires : goal.give_out-requires
 give_out-requires g c = all_shuffled _ c.args.queue.now c.sort_unstable.new.self c.sort_unstable.ensures.permutation c.requires

@@ -1,6 +1,6 @@
 use Rattle.std.proofs.Common.{◌≡◌, drop}
 use Rattle.cross.specs.Queues.{asks, given_out}
-use Rattle.cross.proofs.fills.give_out.Given as goal
+use Rattle.cross.proofs.serving.give_out.Given as goal
 
 -- what is left, given out along the rest of the queue, comes to the same list
 abbrev pub invariant-loop-queued : goal.invariant-loop-queued
