@@ -44,7 +44,8 @@ impl AuctionBook {
     }
 
     fn cut(&mut self, place: usize, by: u32)
-        requires { (place < length (accepted self.old)) × (by < (at_place (accepted self.old) place).shares) }
+        requires within { place < length (accepted self.old) }
+        requires part { by < (at_place (accepted self.old) place).shares }
         ensures { accepted self.new ≡ slice_set (accepted self.old) place (lowered (at_place (accepted self.old) place) by) }
     {
         lower(&mut self.rows[place], by);

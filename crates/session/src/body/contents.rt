@@ -42,7 +42,8 @@ pub(crate) fn is_present(file: &[u8], kind: BodyKind) -> bool
 
 /// The length of a body: each bit that is set has one length, the lowest bit first.
 pub(crate) fn told_length(file: &[u8], kind: BodyKind) -> usize
-    requires { (mask file.now ≤ 15) × (contents file.now ≤ length file.now) }
+    requires lawful_mask { mask file.now ≤ 15 }
+    requires whole { contents file.now ≤ length file.now }
     ensures value { result ≡ told file.now kind }
     ensures bound { result ≤ 65535 }
 {
@@ -56,7 +57,8 @@ pub(crate) fn told_length(file: &[u8], kind: BodyKind) -> usize
 /// Where a body begins. The bound: contents of at most 17 bytes come before it, since a byte has at most eight ones, and
 /// at most three bodies of at most 65,535 bytes.
 pub(crate) fn start_of(file: &[u8], kind: BodyKind) -> usize
-    requires { (mask file.now ≤ 15) × (contents file.now ≤ length file.now) }
+    requires lawful_mask { mask file.now ≤ 15 }
+    requires whole { contents file.now ≤ length file.now }
     ensures value { result ≡ start file.now kind }
     ensures bound { result ≤ 196622 }
 {

@@ -80,7 +80,8 @@ fn check_length(file: &[u8], kind: BodyKind) -> Result<(), Refusal>
 
 /// Refuses a body with a field outside its values, by the first byte of the first such field.
 fn check_fields_of(file: &[u8], kind: BodyKind) -> Result<(), Refusal>
-    requires { (contents_fault file.now ≡ None) × (wrong_length file.now kind ≡ None) }
+    requires laid { contents_fault file.now ≡ None }
+    requires fitting { wrong_length file.now kind ≡ None }
     ensures { MatchResult result (λ _. wrong_field file.now kind ≡ None) (λ e. wrong_field file.now kind ≡ Some (cause e)) }
 {
     match body_of(file, kind).first_bad() {
@@ -102,7 +103,8 @@ pub(crate) fn check_lengths(file: &[u8]) -> Result<(), Refusal>
 
 /// Refuses a file with a field outside its values, by the first such byte.
 pub(crate) fn check_fields(file: &[u8]) -> Result<(), Refusal>
-    requires { (contents_fault file.now ≡ None) × (first_of (wrong_length file.now) ≡ None) }
+    requires laid { contents_fault file.now ≡ None }
+    requires fitting { first_of (wrong_length file.now) ≡ None }
     ensures { MatchResult result (λ _. first_of (wrong_field file.now) ≡ None) (λ e. first_of (wrong_field file.now) ≡ Some (cause e)) }
 {
     check_fields_of(file, BodyKind::Heading)?;

@@ -51,7 +51,8 @@ fn entered_terms(flags: u8, entry: u16, limit: u32, shares: u32) -> OrderTerms
 
 /// The event whose record begins at a byte.
 fn event_at(bytes: &[u8], at: usize) -> TimedEvent
-    requires { (at + 16 ≤ length bytes.now) × (first_bad (fields_of_event bytes.now at) bytes.now at ≡ None) }
+    requires within { at + 16 ≤ length bytes.now }
+    requires clean { first_bad (fields_of_event bytes.now at) bytes.now at ≡ None }
     ensures { timed result ≡ event_at bytes.now at }
 {
     let number = two_at(bytes, at + 6);

@@ -13,7 +13,8 @@ use market::order::{Order, OrderPrice, OrderTerms, Side};
 
 /// The order whose record begins at a byte; resting orders stay.
 fn order_at(bytes: &[u8], at: usize) -> Order
-    requires { (at + 12 ≤ length bytes.now) × (first_bad order_fields bytes.now at ≡ None) }
+    requires within { at + 12 ≤ length bytes.now }
+    requires clean { first_bad order_fields bytes.now at ≡ None }
     ensures { result.terms ≡ order_at bytes.now at }
 {
     let side = if bytes[at] == 0 {

@@ -7,12 +7,12 @@ use Rattle.session.proofs.body.layers.check_fields_of.Goals as goal
 
 pub first_bad-requires : goal.first_bad-requires
 first_bad-requires c =
-    fits_told c.args.file.now c.args.kind c.body_of.result c.requires.0 c.body_of.ensures.kind c.body_of.ensures.bytes
-    ∙ fitting c.args.file.now c.args.kind c.requires.1
+    fits_told c.args.file.now c.args.kind c.body_of.result c.requires.laid c.body_of.ensures.kind c.body_of.ensures.bytes
+    ∙ fitting c.args.file.now c.args.kind c.requires.fitting
 
 inside : (c : goal.After-start_of) → c.start_of.result + c.in-Some.byte ≤ largest_file
 inside c =
-    let lies = bad_in_file c.args.file.now c.args.kind c.body_of.result c.in-Some.byte c.requires.0 c.requires.1 c.body_of.ensures.kind c.body_of.ensures.bytes (sym c.in-Some.ensures) in
+    let lies = bad_in_file c.args.file.now c.args.kind c.body_of.result c.in-Some.byte c.requires.laid c.requires.fitting c.body_of.ensures.kind c.body_of.ensures.bytes (sym c.in-Some.ensures) in
     omega (arith, lies, c.start_of.ensures.value)
 
 pub overflow_add-result : goal.overflow_add-result

@@ -12,7 +12,7 @@ overflow_mul-place c = let lies = filed_event c.args.self.now c.args.place c.req
 pub event_at-requires : goal.event_at-requires
 event_at-requires c =
     let lies = filed_event c.args.self.now c.args.place c.requires in
-    (lies.inside, lies.clean)
+    record { within = lies.inside; clean = lies.clean }
 
 pub returns : goal.returns
 returns c =

@@ -15,7 +15,7 @@ invariant_of-event c =
     let n = two bs (at + 6) in
     let a = four bs (at + 8) in
     let b = four bs (at + 12) in
-    let sound : Sound (entered f n a b) = subst (λ k. SoundCall (call_with k f n a b)) c.in-1.is (event_sound bs at c.requires.1).1 in
+    let sound : Sound (entered f n a b) = subst (λ k. SoundCall (call_with k f n a b)) c.in-1.is (event_sound bs at c.requires.clean).1 in
     let terms : c.entered_terms-terms.result ≡ entered f n a b
     = c.entered_terms-terms.ensures
     ∙ (ap (λ m. entered f m c.four_at-first.result c.four_at-second.result) c.two_at-number.ensures

@@ -9,7 +9,7 @@ overflow_mul-place c = let lies = filed_order c.args.self.now c.args.place c.req
 pub order_at-requires : goal.order_at-requires
 order_at-requires c =
     let lies = filed_order c.args.self.now c.args.place c.requires in
-    (lies.inside, lies.clean)
+    record { within = lies.inside; clean = lies.clean }
 
 pub returns : goal.returns
 returns c = c.order_at.ensures ∙ (filed_order c.args.self.now c.args.place c.requires).listed _
