@@ -12,11 +12,7 @@ impl Width {
     fn size(self) -> usize
         ensures { result ≡ size self }
     {
-        match self {
-            Width::One => 1,
-            Width::Two => 2,
-            Width::Four => 4,
-        }
+        self as usize
     }
 }
 
@@ -25,7 +21,7 @@ pub(crate) fn two_at(bytes: &[u8], at: usize) -> u16
     requires { at + 2 ≤ length bytes.now }
     ensures { result ≡ two bytes.now at }
 {
-    bytes[at] as u16 * 256 + bytes[at + 1] as u16
+    u16::from_be_bytes([bytes[at], bytes[at + 1]])
 }
 
 /// The number of four bytes at a place.
@@ -33,8 +29,7 @@ pub(crate) fn four_at(bytes: &[u8], at: usize) -> u32
     requires { at + 4 ≤ length bytes.now }
     ensures { result ≡ four bytes.now at }
 {
-    ((bytes[at] as u32 * 256 + bytes[at + 1] as u32) * 256 + bytes[at + 2] as u32) * 256
-        + bytes[at + 3] as u32
+    u32::from_be_bytes([bytes[at], bytes[at + 1], bytes[at + 2], bytes[at + 3]])
 }
 
 fn value_at(bytes: &[u8], at: usize, width: Width) -> u32
