@@ -2,7 +2,7 @@
 
 mod reading;
 
-pub(crate) use reading::{first_bad_field, four_at, two_at};
+pub(crate) use reading::{first_bad_field, four_at, side_of, two_at};
 
 /// How many bytes a number has, the most significant first.
 #[derive(Clone, Copy)]
