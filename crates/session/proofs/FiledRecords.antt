@@ -31,20 +31,23 @@ clean_at F s n bs k e h =
 abbrev said : {X : Type 0} → ℕ → (List ℕ → ℕ → X) → List ℕ → List X
 said s read bs = map (λ k. read bs (s * k)) (range_with_len 0 (length bs / s))
 
+-- as many as there are records
+pub length_said : {X : Type 0} (s : ℕ) (read : List ℕ → ℕ → X) (bs : List ℕ) → length (said s read bs) ≡ length bs / s
+length_said s read bs = length-map-range_with_len (λ k. read bs (s * k)) 0 (length bs / s)
+
 -- the k-th record lies in the body, has no bad field, and says what stands at k in the list of the body
 pub record Filed {X : Type 0} (F : Table) (s : ℕ) (read : List ℕ → ℕ → X) (bs : List ℕ) (k : ℕ) : Type 0 where
   pub inside : s * k + s ≤ length bs
   pub clean : first_bad (F bs (s * k)) bs (s * k) ≡ None
   pub listed : (x : X) → read bs (s * k) ≡ get_or (said s read bs) k x
 
-filed : {X : Type 0} (F : Table) (s : ℕ) (read : List ℕ → ℕ → X) (bs : List ℕ) (count k : ℕ)
+filed : {X : Type 0} (F : Table) (s : ℕ) (read : List ℕ → ℕ → X) (bs : List ℕ) (k : ℕ)
     → is_some (first_in F s (length bs / s) bs 0) ≡ false
-    → count ≡ length (said s read bs)
-    → k < count
+    → k < length (said s read bs)
     → Filed F s read bs k
-filed F s read bs count k e counted h =
+filed F s read bs k e h =
     let n = length bs / s in
-    let below : k < n = omega (arith, length-map-range_with_len (λ i. read bs (s * i)) 0 n) in
+    let below : k < n = omega (arith, length_said s read bs) in
     let more : s * (k + 1) ≤ s * n = mul-le-mul_left s (omega arith) in
     record {
       inside = omega (arith, more, mul-add s k 1, mul-one s, mul-div-le (length bs) s);
@@ -52,15 +55,8 @@ filed F s read bs count k e counted h =
       listed = λ x. sym (get_or-map-range_with_len (λ i. read bs (s * i)) 0 n k k x below (omega arith));
     }
 
-pub filed_order : (b : FiledBook) (k : ℕ) → k < b.count → Filed fields_of_order order_size order_at b.records.now k
-filed_order b k h = filed fields_of_order order_size order_at b.records.now b.count k b.clean b.counted h
+pub filed_order : (b : FiledBook) (k : ℕ) → k < length (orders_in b.records.now) → Filed fields_of_order order_size order_at b.records.now k
+filed_order b k h = filed fields_of_order order_size order_at b.records.now k b.clean h
 
-pub filed_event : (b : FiledEvents) (k : ℕ) → k < b.count → Filed fields_of_event event_size event_at b.records.now k
-filed_event b k h = filed fields_of_event event_size event_at b.records.now b.count k b.clean b.counted h
-
--- as many orders and events as there are records
-pub length_orders : (bs : List ℕ) → length (orders_in bs) ≡ length bs / order_size
-length_orders bs = length-map-range_with_len (λ k. order_at bs (order_size * k)) 0 (length bs / order_size)
-
-pub length_events : (bs : List ℕ) → length (events_in bs) ≡ length bs / event_size
-length_events bs = length-map-range_with_len (λ k. event_at bs (event_size * k)) 0 (length bs / event_size)
+pub filed_event : (b : FiledEvents) (k : ℕ) → k < length (events_in b.records.now) → Filed fields_of_event event_size event_at b.records.now k
+filed_event b k h = filed fields_of_event event_size event_at b.records.now k b.clean h

@@ -3,7 +3,6 @@
 ghost use Rattle.std.specs.Prelude.{◌≡◌, true, false, length, is_some};
 ghost use Rattle.session.specs.declared.body.BodyKind.TheVariants.{Events};
 ghost use Rattle.session.specs.Faults.{bad_field, fits};
-ghost use Rattle.session.specs.Records.{events_in};
 
 mod listing;
 
@@ -11,8 +10,6 @@ mod listing;
 #[derive(Clone, Copy)]
 pub struct FiledEvents<'a> {
     pub records: &'a [u8],
-    pub count: usize,
     ghost fitting: { fits Events (length records.now) ≡ true },
     ghost clean: { is_some (bad_field Events records.now) ≡ false },
-    ghost counted: { count ≡ length (events_in records.now) },
 }

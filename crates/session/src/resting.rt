@@ -3,7 +3,6 @@
 ghost use Rattle.std.specs.Prelude.{◌≡◌, true, false, length, is_some};
 ghost use Rattle.session.specs.declared.body.BodyKind.TheVariants.{Resting};
 ghost use Rattle.session.specs.Faults.{bad_field, fits};
-ghost use Rattle.session.specs.Records.{orders_in};
 
 mod listing;
 
@@ -14,8 +13,6 @@ pub const MOST_RESTING: usize = 256;
 #[derive(Clone, Copy)]
 pub struct FiledBook<'a> {
     pub records: &'a [u8],
-    pub count: usize,
     ghost fitting: { fits Resting (length records.now) ≡ true },
     ghost clean: { is_some (bad_field Resting records.now) ≡ false },
-    ghost counted: { count ≡ length (orders_in records.now) },
 }

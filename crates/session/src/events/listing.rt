@@ -79,28 +79,20 @@ fn event_at(bytes: &[u8], at: usize) -> TimedEvent
 }
 
 impl<'a> FiledEvents<'a> {
-    fn filed(&self, place: usize) -> TimedEvent
-        requires { place < self.now.count }
-        ensures listed { timed result ≡ slice_index_or (events_in self.now.records.now) place (timed result) }
-        ensures sound { SoundEvent (timed result) }
-    {
-        event_at(self.records, EVENT_SIZE * place)
-    }
-
     /// How many events there are.
     pub fn count(&self) -> usize
         ensures { result ≡ length (events_in self.now.records.now) }
     {
-        self.count
+        self.records.len() / EVENT_SIZE
     }
 
     /// The event at a place, counted from 0; none at or past the count.
     pub fn event(&self, place: usize) -> Option<TimedEvent>
         ensures { AnswersEvent (events_in self.now.records.now) place result }
     {
-        if place >= self.count {
+        if place >= self.count() {
             return None;
         }
-        Some(self.filed(place))
+        Some(event_at(self.records, EVENT_SIZE * place))
     }
 }

@@ -13,7 +13,6 @@ use crate::body::{Body, BodyKind};
 use crate::events::FiledEvents;
 use crate::field::four_at;
 use crate::heading::Heading;
-use crate::record::{EVENT_SIZE, ORDER_SIZE};
 use crate::resting::FiledBook;
 use market::price::Price;
 use market::ranking::RankingName;
@@ -45,14 +44,8 @@ fn session_of<'a>(file: LaidFile<'a>) -> SessionFile<'a>
             },
             ranking: RankingName::try_from(heading[4]).unwrap(),
         },
-        resting: FiledBook {
-            records: resting,
-            count: resting.len() / ORDER_SIZE,
-        },
-        events: FiledEvents {
-            records: events,
-            count: events.len() / EVENT_SIZE,
-        },
+        resting: FiledBook { records: resting },
+        events: FiledEvents { records: events },
         note: file.body(BodyKind::Note).bytes(),
     }
 }

@@ -28,28 +28,19 @@ fn order_at(bytes: &[u8], at: usize) -> Order
     Order { terms }
 }
 
-impl<'a> FiledBook<'a> {
-    fn filed(&self, place: usize) -> Order
-        requires { place < self.now.count }
-        ensures { result.terms ≡ slice_index_or (orders_in self.now.records.now) place result.terms }
-    {
-        order_at(self.records, ORDER_SIZE * place)
-    }
-}
-
 impl<'a> Book for FiledBook<'a> {
     ghost orders = { λ b. orders_in b.records.now };
 
     ghost short = { filed_short };
 
     fn count(&self) -> usize {
-        self.count
+        self.records.len() / ORDER_SIZE
     }
 
     fn order(&self, place: usize) -> Option<Order> {
-        if place >= self.count {
+        if place >= self.count() {
             return None;
         }
-        Some(self.filed(place))
+        Some(order_at(self.records, ORDER_SIZE * place))
     }
 }
