@@ -8,10 +8,12 @@ ghost use Rattle.session.specs.Handed.{bytes_of, kind_of};
 
 use super::contents::LaidFile;
 use super::{Body, BodyKind};
+use crate::events::EventRecord;
 use crate::field::first_bad_field;
 use crate::record::fields::heading_fields;
-use crate::record::{EVENT_SIZE, HEADING_SIZE, ORDER_SIZE, Record};
-use crate::resting::MOST_RESTING;
+use crate::record::walk::first_bad_in;
+use crate::record::{HEADING_SIZE, Record};
+use crate::resting::{MOST_RESTING, OrderRecord};
 use market::refusal::Refusal;
 
 impl<'a> Body<'a> {
@@ -22,9 +24,10 @@ impl<'a> Body<'a> {
         match self {
             Body::Heading(bytes) => bytes.len() == HEADING_SIZE,
             Body::Resting(bytes) => {
-                bytes.len() % ORDER_SIZE == 0 && bytes.len() <= ORDER_SIZE * MOST_RESTING
+                bytes.len() % OrderRecord::SIZE == 0
+                    && bytes.len() <= OrderRecord::SIZE * MOST_RESTING
             }
-            Body::Events(bytes) => bytes.len() % EVENT_SIZE == 0,
+            Body::Events(bytes) => bytes.len() % EventRecord::SIZE == 0,
             Body::Note(_) => true,
         }
     }
@@ -45,8 +48,8 @@ impl<'a> Body<'a> {
     {
         match self {
             Body::Heading(bytes) => first_bad_field(bytes, 0, &heading_fields()),
-            Body::Resting(bytes) => Record::Order.first_bad_in(bytes),
-            Body::Events(bytes) => Record::Event.first_bad_in(bytes),
+            Body::Resting(bytes) => first_bad_in::<OrderRecord>(bytes),
+            Body::Events(bytes) => first_bad_in::<EventRecord>(bytes),
             Body::Note(_) => None,
         }
     }

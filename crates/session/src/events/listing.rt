@@ -11,7 +11,6 @@ ghost use Rattle.session.specs.Records.{entered, event_at, events_in};
 
 use super::FiledEvents;
 use crate::field::{four_at, side_of, two_at};
-use crate::record::EVENT_SIZE;
 use crate::record::kind::EventKind;
 use market::event::{Event, TimedEvent};
 use market::order::{Order, OrderPrice, OrderTerms};
@@ -83,16 +82,14 @@ impl<'a> FiledEvents<'a> {
     pub fn count(&self) -> usize
         ensures { result ≡ length (events_in self.now.records.now) }
     {
-        self.records.len() / EVENT_SIZE
+        self.len()
     }
 
     /// The event at a place, counted from 0; none at or past the count.
     pub fn event(&self, place: usize) -> Option<TimedEvent>
         ensures { AnswersEvent (events_in self.now.records.now) place result }
     {
-        if place >= self.count() {
-            return None;
-        }
-        Some(event_at(self.records, EVENT_SIZE * place))
+        let at = self.start_of(place)?;
+        Some(event_at(self.records, at))
     }
 }

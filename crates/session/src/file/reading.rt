@@ -17,6 +17,7 @@ use crate::resting::FiledBook;
 use market::price::Price;
 use market::ranking::RankingName;
 use market::refusal::Refusal;
+use std::marker::PhantomData;
 
 /// Layer by layer, so that the lowest number is given.
 fn check<'a>(file: &'a [u8]) -> Result<LaidFile<'a>, Refusal>
@@ -44,8 +45,14 @@ fn session_of<'a>(file: LaidFile<'a>) -> SessionFile<'a>
             },
             ranking: RankingName::try_from(heading[4]).unwrap(),
         },
-        resting: FiledBook { records: resting },
-        events: FiledEvents { records: events },
+        resting: FiledBook {
+            records: resting,
+            kind: PhantomData,
+        },
+        events: FiledEvents {
+            records: events,
+            kind: PhantomData,
+        },
         note: file.body(BodyKind::Note).bytes(),
     }
 }

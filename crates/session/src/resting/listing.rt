@@ -7,7 +7,6 @@ ghost use Rattle.session.specs.Records.{order_at, order_fields, orders_in};
 
 use super::FiledBook;
 use crate::field::{four_at, side_of, two_at};
-use crate::record::ORDER_SIZE;
 use book::Book;
 use market::order::{Order, OrderPrice, OrderTerms};
 
@@ -31,16 +30,14 @@ fn order_at(bytes: &[u8], at: usize) -> Order
 impl<'a> Book for FiledBook<'a> {
     ghost orders = { λ b. orders_in b.records.now };
 
-    ghost short = { filed_short };
+    ghost short = { λ b. filed_short b.records.now b.fitting };
 
     fn count(&self) -> usize {
-        self.records.len() / ORDER_SIZE
+        self.len()
     }
 
     fn order(&self, place: usize) -> Option<Order> {
-        if place >= self.count() {
-            return None;
-        }
-        Some(order_at(self.records, ORDER_SIZE * place))
+        let at = self.start_of(place)?;
+        Some(order_at(self.records, at))
     }
 }

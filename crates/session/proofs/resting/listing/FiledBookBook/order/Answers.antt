@@ -1,18 +1,18 @@
 -- The order at a place is the one of the record there.
-use Rattle.std.proofs.Common.{◌<◌, length, ◌∙◌, arith}
-use Rattle.session.specs.Records.{orders_in}
-use Rattle.session.proofs.FiledRecords.{filed_order}
+use Rattle.std.proofs.Common.{◌∙◌, arith}
+use Rattle.session.specs.Faults.{fields_of_order}
+use Rattle.session.specs.Records.{order_at, order_size}
+use Rattle.session.proofs.FiledRecords.{length_said, listed}
 use Rattle.session.proofs.resting.listing.FiledBookBook.order.Goals as goal
 
-pub overflow_mul-place : goal.overflow_mul-place
-overflow_mul-place c = let lies = filed_order c.args.self.now c.args.place (omega (arith, c.count.ensures, c.if-place-count.false)) in omega (arith, lies.inside)
-
-pub order_at-requires : goal.order_at-requires
-order_at-requires c =
-    let lies = filed_order c.args.self.now c.args.place (omega (arith, c.count.ensures, c.if-place-count.false)) in
-    record { within = lies.inside; clean = lies.clean }
+pub returns-in_err-at : goal.returns-in_err-at
+returns-in_err-at c =
+    rw c.from_residual.ensures (omega (arith, c.in_err-at.ensures, length_said order_size order_at c.args.self.now.records.now))
 
 pub returns : goal.returns
 returns c =
-    let h : c.args.place < length (orders_in c.args.self.now.records.now) = omega (arith, c.count.ensures, c.if-place-count.false) in
-    (h, c.order_at.ensures ∙ (filed_order c.args.self.now c.args.place h).listed _)
+    let bs = c.args.self.now.records.now in
+    let begins = c.in_ok-at.ensures in (
+      omega (arith, begins.counted, length_said order_size order_at bs),
+      c.order_at.ensures ∙ listed fields_of_order order_size order_at bs c.args.place c.in_ok-at.at begins _,
+    )
