@@ -3,7 +3,10 @@ pub mod Events
 pub mod Records
 pub mod Contents
 pub mod Handed
+pub mod EventKinds
 pub mod Faults
+pub mod Told
+pub mod Places
 pub mod FirstCauses
 pub mod Layout
 pub mod Filed
