@@ -9,6 +9,7 @@ use crate::allotment::Allotment;
 use crate::allotment::writing::allot;
 use crate::clearing::clearing_price;
 use crate::depth::Depth;
+use crate::level::Level;
 use crate::ranking::Ranking;
 use book::Book;
 use market::range::PriceRange;
@@ -25,7 +26,12 @@ fn perform<B: Book, R: Ranking>(
 {
     let price = clearing_price(book, range, twice);
     let executed = Depth::of(book, range, price).executed();
-    allot::<B, R>(book, range, price.cents, executed, list);
+    let level = Level {
+        range,
+        price,
+        executed,
+    };
+    allot::<B, R>(book, level, list);
     Crossing { price, executed }
 }
 

@@ -5,8 +5,9 @@ ghost use Rattle.cross.specs.Limits.{buy_shares, buy_shares_above, sell_shares, 
 ghost use Rattle.cross.specs.Passes.{depth_by_limits};
 
 use super::Depth;
+use crate::limit::limit_of;
 use book::Book;
-use market::order::{Order, OrderPrice, Side};
+use market::order::{Order, Side};
 
 impl Depth {
     fn none() -> Depth
@@ -32,10 +33,7 @@ impl Depth {
         ensures below { result.sold_below ≡ self.sold_below + sell_shares_below price order.terms }
     {
         let shares = order.terms.shares;
-        let limit = match order.terms.price {
-            OrderPrice::Market => 0,
-            OrderPrice::Limit(cents) => cents,
-        };
+        let limit = limit_of(order.terms.price);
         let mut depth = self;
         match order.terms.side {
             Side::Buy => {
