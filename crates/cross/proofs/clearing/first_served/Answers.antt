@@ -9,7 +9,7 @@ loop-side-init g c =
     let ranged = c.args.ranged.now in (
       c.requires.unserved,
       c.requires.served,
-      way_begins (served ranged.range.lowest.cents ranged.range.highest.cents (g.B.Book.orders ranged.book) c.args.side) c.args.from c.args.to c.requires.unserved c.requires.served,
+      way_begins (served ranged.range.lowest.cents ranged.range.highest.cents (g.B.Book.orders ranged.book) c.args.side) c.args.from.cents c.args.to.cents c.requires.unserved c.requires.served,
     )
 
 pub returns : goal.returns
@@ -17,7 +17,7 @@ returns g c =
     let ranged = c.args.ranged.now in
     record {
       served = c.loop-side.invariant.1;
-      first = way_ends (served ranged.range.lowest.cents ranged.range.highest.cents (g.B.Book.orders ranged.book) c.args.side) c.args.from c.args.to c.loop-side.unserved c.loop-side.found
+      first = way_ends (served ranged.range.lowest.cents ranged.range.highest.cents (g.B.Book.orders ranged.book) c.args.side) c.args.from.cents c.args.to.cents c.loop-side.unserved.cents c.loop-side.found.cents
           c.loop-side.invariant.0
           c.loop-side.invariant.2
           (omega arith);
