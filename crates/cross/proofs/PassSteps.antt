@@ -1,5 +1,5 @@
 -- A pass over a list, an order at a time: the sums of the orders passed, and the room that is left for those ahead.
-use Rattle.std.proofs.Common.{◌≡◌, ℕ, ◌+◌, ◌*◌, ◌<◌, ◌≤◌, Bool, true, false, cond, ◌&&◌, ltb, leb, List, [], ◌∷◌, length, get_or, take, fold, sum_by, sym, refl, ap, ◌∙◌, arith}
+use Rattle.std.proofs.Common.{◌≡◌, ℕ, suc, ◌+◌, ◌*◌, ◌<◌, ◌≤◌, Bool, true, false, cond, ◌&&◌, ltb, leb, List, [], ◌∷◌, length, get_or, take, fold, sum_by, sym, refl, ap, ◌∙◌, arith}
 use Rattle.std.proofs.lemmas.List.Sums.{sum_by-cons}
 use Rattle.std.proofs.lemmas.Bool.Decides.{nat_tests}
 use Rattle.market.specs.declared.order.OrderTerms.{OrderTerms}
@@ -41,33 +41,43 @@ pass_begins p ahead os d all short none =
       room = (omega (arith, none.0, long), omega (arith, none.1.0, long), omega (arith, none.1.1.0, long), omega (arith, none.1.1.1, long));
     }
 
-pub room_for_one : (p : ℕ) (o : OrderTerms) (ahead os : List OrderTerms) (d : Depth) → Passing p (o ∷ ahead) os d → Room 1 d
-room_for_one p o ahead os d passing = let room = passing.room in (omega arith, omega arith, omega arith, omega arith)
+-- ---- where another order is next
 
-pub pass_one : (p : ℕ) (o : OrderTerms) (ahead os : List OrderTerms) (d e : Depth) → Sound o → Adds p o d e → Passing p (o ∷ ahead) os d → Passing p ahead os e
-pass_one p o ahead os d e sound adds passing =
-    let few = shares_small o sound in
-    let room = passing.room in
-    record {
-      bought = omega (arith, passing.bought, adds.bought, sum_by-cons (buy_shares p) o ahead);
-      sold = omega (arith, passing.sold, adds.sold, sum_by-cons (sell_shares p) o ahead);
-      above = omega (arith, passing.above, adds.above, sum_by-cons (buy_shares_above p) o ahead);
-      below = omega (arith, passing.below, adds.below, sum_by-cons (sell_shares_below p) o ahead);
-      room = (
-        omega (arith, adds.bought, room.0, few, at_most_shares (buys o.side && leb p (limit_of o.price)) o),
-        omega (arith, adds.sold, room.1, few, at_most_shares (sells o.side && leb (limit_of o.price) p) o),
-        omega (arith, adds.above, room.2, few, at_most_shares (buys o.side && ltb p (limit_of o.price)) o),
-        omega (arith, adds.below, room.3, few, at_most_shares (sells o.side && ltb (limit_of o.price) p) o),
-      );
-    }
+module _ (p : ℕ) (ahead rest os : List OrderTerms) (d : Depth) (o : OrderTerms) (step : ahead ≡ o ∷ rest) (passing : Passing p ahead os d) where
+  long : length ahead ≡ suc (length rest)
+  long = ap length step
 
-pub pass_ends : (p : ℕ) (os : List OrderTerms) (d : Depth) → Passing p [] os d → d ≡ depth_by_limits p os
-pass_ends p os d passing =
+  pub room_for_one : Room 1 d
+  room_for_one = let room = passing.room in (omega (arith, long), omega (arith, long), omega (arith, long), omega (arith, long))
+
+  next_sum : (f : OrderTerms → ℕ) → sum_by f ahead ≡ f o + sum_by f rest
+  next_sum f = ap (sum_by f) step ∙ sum_by-cons f o rest
+
+  pub pass_one : (e : Depth) → Sound o → Adds p o d e → Passing p rest os e
+  pass_one e sound adds =
+      let few = shares_small o sound in
+      let room = passing.room in
+      record {
+        bought = omega (arith, passing.bought, adds.bought, next_sum (buy_shares p));
+        sold = omega (arith, passing.sold, adds.sold, next_sum (sell_shares p));
+        above = omega (arith, passing.above, adds.above, next_sum (buy_shares_above p));
+        below = omega (arith, passing.below, adds.below, next_sum (sell_shares_below p));
+        room = (
+          omega (arith, long, adds.bought, room.0, few, at_most_shares (buys o.side && leb p (limit_of o.price)) o),
+          omega (arith, long, adds.sold, room.1, few, at_most_shares (sells o.side && leb (limit_of o.price) p) o),
+          omega (arith, long, adds.above, room.2, few, at_most_shares (buys o.side && ltb p (limit_of o.price)) o),
+          omega (arith, long, adds.below, room.3, few, at_most_shares (sells o.side && ltb (limit_of o.price) p) o),
+        );
+      }
+
+pub pass_ends : (p : ℕ) (ahead os : List OrderTerms) (d : Depth) → ahead ≡ [] → Passing p ahead os d → d ≡ depth_by_limits p os
+pass_ends p ahead os d none passing =
+    let nothing : (f : OrderTerms → ℕ) → sum_by f ahead ≡ 0 = λ f. ap (sum_by f) none in
     same_depth d (depth_by_limits p os)
-    (omega (arith, passing.bought))
-    (omega (arith, passing.sold))
-    (omega (arith, passing.above))
-    (omega (arith, passing.below))
+    (omega (arith, passing.bought, nothing (buy_shares p)))
+    (omega (arith, passing.sold, nothing (sell_shares p)))
+    (omega (arith, passing.above, nothing (buy_shares_above p)))
+    (omega (arith, passing.below, nothing (sell_shares_below p)))
 
 -- ---- counting prices first, or counting as one goes
 

@@ -19,16 +19,14 @@ fn queue_side<B: Book>(book: &B, side: Side, queue: &mut [Queued]) -> usize
     ensures queued { Queue side (B.Book.orders book.now) (length (B.Book.orders book.now)) (take result queue.new) }
 {
     let mut count = 0;
-    for place in 0..book.count() {
-        if let Some(order) = book.order(place) {
-            if side == order.terms.side {
-                queue[count] = Queued {
-                    order,
-                    place,
-                    slot: count,
-                };
-                count += 1;
-            }
+    for (place, order) in book.iter().enumerate() {
+        if order.terms.side == side {
+            queue[count] = Queued {
+                order,
+                place,
+                slot: count,
+            };
+            count += 1;
         }
     }
     count

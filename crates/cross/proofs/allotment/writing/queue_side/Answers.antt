@@ -1,31 +1,62 @@
 -- The orders of a side, a place at a time.
 use Rattle.std.proofs.Common.{◌≡◌, true, false, refl, arith, rules}
 use Rattle.cross.specs.Rankings.{same_side}
-use Rattle.cross.proofs.Queueing.{found_at, free_record, queues_none, queues_one}
+use Rattle.cross.proofs.Queueing.{few_queued, place_within, queueing_begins, queueing_ends, queues_none, queues_one}
 use Rattle.cross.proofs.allotment.writing.queue_side.Goals as goal
-use Rattle.cross.proofs.allotment.writing.queue_side.Goals.{in-Some+then-eq, in-Some+else-eq, in_default}
+use Rattle.cross.proofs.allotment.writing.queue_side.Goals.{then-eq, else-eq}
+
+pub loop-place-init : goal.loop-place-init
+loop-place-init g c = record {
+  can_next = search rules;
+  ends = search rules;
+  queueing = queueing_begins c.args.side _ _ c.args.queue.now c.iter-order-items.ensures;
+}
+
+pub overflow_step-place : goal.overflow_step-place
+overflow_step-place g c =
+    omega (arith, place_within _ _ _ _ _ _ _ _ c.in-Some.ensures.steps c.loop-place.invariant.queueing, g.B.Book.short c.args.book.now)
 
 pub bounds-queue-count : goal.bounds-queue-count
 bounds-queue-count g c =
-    omega (arith, c.loop-place.auto.queue, free_record c.args.side (g.B.Book.orders c.args.book.now) c.loop-place.place c.loop-place.count c.args.queue.now c.loop-place.invariant.0 c.in-Some.ensures.0 c.requires)
+    omega (
+      arith,
+      place_within _ _ _ _ _ _ _ _ c.in-Some.ensures.steps c.loop-place.invariant.queueing,
+      few_queued _ _ _ _ _ _ _ _ c.in-Some.ensures.steps c.loop-place.invariant.queueing,
+      c.loop-place.auto.queue,
+      c.requires
+    )
+
+pub offset_bounds-queue-count : goal.offset_bounds-queue-count
+offset_bounds-queue-count g c =
+    omega (
+      arith,
+      place_within _ _ _ _ _ _ _ _ c.in-Some.ensures.steps c.loop-place.invariant.queueing,
+      few_queued _ _ _ _ _ _ _ _ c.in-Some.ensures.steps c.loop-place.invariant.queueing,
+      g.B.Book.short c.args.book.now
+    )
 
 pub loop-place-preserved : goal.loop-place-preserved
 loop-place-preserved g c =
-    let os = g.B.Book.orders c.args.book.now in
-    let k = c.loop-place.place in
-    let count = c.loop-place.count in
-    elim c.match-order.branch [
-      | in-Some+then-eq w ↦
-          let found = w.in-Some.ensures in
-          let mine : same_side c.args.side w.in-Some.order.terms.side ≡ true = search rules in
-          queues_one c.args.side os k count c.match-order.count c.loop-place.queue c.match-order.queue (record { order = w.in-Some.order; place = k; slot = count })
-          c.loop-place.invariant
-          (omega (arith, c.loop-place.auto.queue, free_record c.args.side os k count c.args.queue.now c.loop-place.invariant.0 found.0 c.requires))
-          w.count-is w.queue-is mine refl refl (found_at os k w.in-Some.order.terms found.0 found.1)
-      | in-Some+else-eq w ↦
-          let found = w.in-Some.ensures in
-          let other : same_side c.args.side w.in-Some.order.terms.side ≡ false = search rules in
-          queues_none c.args.side os k count c.match-order.count c.loop-place.queue c.match-order.queue w.in-Some.order.terms
-          c.loop-place.invariant w.count-is w.queue-is other (found_at os k w.in-Some.order.terms found.0 found.1)
-      | in_default w ↦ absurd (omega (arith, w.in_default.ensures, c.count-place-end.ensures))
+    let step = c.in-Some.ensures.steps in
+    let here = c.loop-place.invariant.queueing in
+    elim c.if-eq.branch [
+      | then-eq w ↦
+          let mine : same_side c.in-Some.order.terms.side c.args.side ≡ true = search rules in
+          record {
+            can_next = search rules;
+            ends = search rules;
+            queueing = rw (w.count-is, w.queue-is) (queues_one _ _ _ _ _ _ _ _ step here _ refl refl refl mine (omega (arith, c.loop-place.auto.queue, c.requires)));
+          }
+      | else-eq w ↦
+          let other : same_side c.in-Some.order.terms.side c.args.side ≡ false = search rules in
+          record {
+            can_next = search rules;
+            ends = search rules;
+            queueing = rw (w.count-is, w.queue-is) (queues_none _ _ _ _ _ _ _ _ step here other);
+          }
     ]
+
+pub returns : goal.returns
+returns g c =
+    let all = queueing_ends _ _ _ _ _ _ c.in-None.ensures.steps.0 c.loop-place.invariant.queueing in
+    record { count = all.0; queued = all.1 }

@@ -1,8 +1,7 @@
 -- The pass, an order at a time.
-use Rattle.std.proofs.Common.{List, ap, ◌∙◌, rules, subst}
-use Rattle.market.specs.declared.order.OrderTerms.{OrderTerms}
+use Rattle.std.proofs.Common.{ap, ◌∙◌, rules}
 use Rattle.book.specs.Going.{ahead}
-use Rattle.cross.proofs.PassSteps.{Passing, pass_begins, pass_ends, pass_one, room_for_one}
+use Rattle.cross.proofs.PassSteps.{pass_begins, pass_ends, pass_one, room_for_one}
 use Rattle.cross.proofs.depth.Depth.by_limits.Goals as goal
 
 pub loop-order-init : goal.loop-order-init
@@ -13,20 +12,14 @@ loop-order-init g c = record {
 }
 
 pub with-depth-requires : goal.with-depth-requires
-with-depth-requires g c =
-    let At : List OrderTerms → Type 0 = λ rest. Passing c.args.price.cents rest (g.B.Book.orders c.args.book.now) c.loop-order.depth in
-    room_for_one _ _ _ _ _ (subst At c.in-Some.ensures.steps c.loop-order.invariant.passing)
+with-depth-requires g c = room_for_one _ _ _ _ _ _ c.in-Some.ensures.steps c.loop-order.invariant.passing
 
 pub loop-order-preserved : goal.loop-order-preserved
-loop-order-preserved g c =
-    let At : List OrderTerms → Type 0 = λ rest. Passing c.args.price.cents rest (g.B.Book.orders c.args.book.now) c.loop-order.depth in
-    record {
-      can_next = search rules;
-      ends = search rules;
-      passing = pass_one _ _ _ _ _ _ c.in-Some.order.lawful c.with-depth.ensures (subst At c.in-Some.ensures.steps c.loop-order.invariant.passing);
-    }
+loop-order-preserved g c = record {
+  can_next = search rules;
+  ends = search rules;
+  passing = pass_one _ _ _ _ _ _ c.in-Some.ensures.steps c.loop-order.invariant.passing c.with-depth.result c.in-Some.order.lawful c.with-depth.ensures;
+}
 
 pub returns : goal.returns
-returns g c =
-    let At : List OrderTerms → Type 0 = λ rest. Passing c.args.price.cents rest (g.B.Book.orders c.args.book.now) c.loop-order.depth in
-    pass_ends _ _ _ (subst At c.in-None.ensures.steps.0 c.loop-order.invariant.passing)
+returns g c = pass_ends _ _ _ _ c.in-None.ensures.steps.0 c.loop-order.invariant.passing
