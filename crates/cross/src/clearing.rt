@@ -2,7 +2,7 @@
 
 ghost use Rattle.std.specs.Prelude.{◌≡◌, true, false};
 ghost use Rattle.cross.specs.Clearing.{clearing_price};
-ghost use Rattle.cross.specs.Serving.{First, served, serves};
+ghost use Rattle.cross.specs.Serving.{First, served_in, serves};
 
 use crate::depth::Depth;
 use book::Book;
@@ -26,10 +26,10 @@ impl Depth {
 
 /// The first served price on the way from an unserved price to a served one: a bisection, one pass to a step.
 fn first_served<B: Book + Drop>(ranged: &Ranged<B>, side: Side, from: Price, to: Price) -> Price
-    requires unserved { served ranged.now.range.lowest.cents ranged.now.range.highest.cents (B.Book.orders ranged.now.book) side from.cents ≡ false }
-    requires served { served ranged.now.range.lowest.cents ranged.now.range.highest.cents (B.Book.orders ranged.now.book) side to.cents ≡ true }
-    ensures served { served ranged.now.range.lowest.cents ranged.now.range.highest.cents (B.Book.orders ranged.now.book) side result.cents ≡ true }
-    ensures first { First (served ranged.now.range.lowest.cents ranged.now.range.highest.cents (B.Book.orders ranged.now.book) side) from.cents to.cents result.cents }
+    requires unserved { served_in B.Book.orders ranged.now side from.cents ≡ false }
+    requires served { served_in B.Book.orders ranged.now side to.cents ≡ true }
+    ensures served { served_in B.Book.orders ranged.now side result.cents ≡ true }
+    ensures first { First (served_in B.Book.orders ranged.now side) from.cents to.cents result.cents }
 {
     let mut unserved = from;
     let mut found = to;

@@ -1,7 +1,7 @@
 //! Writing the allotment list in place.
 
 ghost use Rattle.std.specs.Prelude.{◌≡◌, ◌≤◌, ◌++◌, length, take, drop};
-ghost use Rattle.cross.specs.Allotments.{allotted, side_allotments, side_places};
+ghost use Rattle.cross.specs.Allotments.{allotted, side_allotments, side_count};
 ghost use Rattle.cross.specs.Levels.{fill_at};
 ghost use Rattle.cross.specs.Queues.{Queue};
 
@@ -15,7 +15,7 @@ use market::order::Side;
 /// Queues the orders of a side by rising place, and answers how many.
 fn queue_side<B: Book>(book: &B, side: Side, queue: &mut [Queued]) -> usize
     requires { length (B.Book.orders book.now) ≤ length queue.old }
-    ensures count { result ≡ length (side_places side (B.Book.orders book.now) (length (B.Book.orders book.now))) }
+    ensures count { result ≡ side_count side (B.Book.orders book.now) }
     ensures queued { Queue side (B.Book.orders book.now) (length (B.Book.orders book.now)) (take result queue.new) }
 {
     let mut count = 0;
@@ -41,8 +41,8 @@ fn serve_side<B: Book, R: Ranking>(
     list: &mut [Allotment],
 ) -> usize
     requires queue { length (B.Book.orders book.now) ≤ length queue.old }
-    requires list { length (side_places side (B.Book.orders book.now) (length (B.Book.orders book.now))) ≤ length list.old }
-    ensures count { result ≡ length (side_places side (B.Book.orders book.now) (length (B.Book.orders book.now))) }
+    requires list { side_count side (B.Book.orders book.now) ≤ length list.old }
+    ensures count { result ≡ side_count side (B.Book.orders book.now) }
     ensures records { list.new ≡ side_allotments side (B.Book.orders book.now) (fill_at level R.Ranking.good (B.Book.orders book.now)) (length (B.Book.orders book.now)) ++ drop result list.old }
 {
     let count = queue_side(book, side, queue);
