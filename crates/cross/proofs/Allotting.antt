@@ -61,42 +61,6 @@ module _ (side : Side) (os : List OrderTerms) where
     pub length_allotments : (k : ℕ) → length (side_allotments side os fill k) ≡ length (side_places side os k)
     length_allotments k = length-map (side_places side os k) (allotment fill)
 
-    -- one record more, at the first place that is not yet written
-    pub wrote : (k w : ℕ) (l : List Allotment) → mine k ≡ true → w ≡ length (side_places side os k) → w < length l
-        → set (side_allotments side os fill k ++ drop w l) w (allotment fill k) ≡ side_allotments side os fill (k + 1) ++ drop (w + 1) l
-    wrote k w l e n h =
-        let front = side_allotments side os fill k in
-        let long : length front ≡ w = length_allotments k ∙ sym n in
-        let took : side_allotments side os fill (k + 1) ≡ front ++ allotment fill k ∷ []
-        = ap (map (allotment fill)) (places_took k e) ∙ map-append (allotment fill) (side_places side os k) (k ∷ []) in
-        ap (λ rest. set (front ++ rest) w (allotment fill k)) (drop_more l w (allotment fill k) h)
-        ∙ (set_at front (get_or l w (allotment fill k)) (drop (w + 1) l) (allotment fill k) w long
-        ∙ (sym (append_assoc front (allotment fill k ∷ []) (drop (w + 1) l)) ∙ ap (λ xs. xs ++ drop (w + 1) l) (sym took)))
-
-    pub passed : (k w : ℕ) (l : List Allotment) → mine k ≡ false
-        → side_allotments side os fill k ++ drop w l ≡ side_allotments side os fill (k + 1) ++ drop w l
-    passed k w l e = ap (λ xs. map (allotment fill) xs ++ drop w l) (sym (places_left k e))
-
-    -- what a turn of the loop keeps: so many records, and behind them what stood there before
-    abbrev pub Written : (k w : ℕ) (now before : List Allotment) → Type 0
-    Written k w now before = (w ≡ length (side_places side os k)) × (now ≡ side_allotments side os fill k ++ drop w before)
-
-    pub writes_one : (k w v : ℕ) (now next before : List Allotment) (a : Allotment) → mine k ≡ true → w < length before → Written k w now before
-        → v ≡ w + 1 → next ≡ set now w a → a ≡ allotment fill k → Written (k + 1) v next before
-    writes_one k w v now next before a e h inv count sets record_is = (
-      omega (arith, count, inv.0, took_length k e),
-      sets
-          ∙ (ap (λ xs. set xs w a) inv.1
-          ∙ (ap (λ x. set (side_allotments side os fill k ++ drop w before) w x) record_is
-          ∙ (wrote k w before e inv.0 h ∙ ap (λ n. side_allotments side os fill (k + 1) ++ drop n before) (sym count)))),
-    )
-
-    pub writes_none : (k w v : ℕ) (now next before : List Allotment) → mine k ≡ false → Written k w now before → v ≡ w → next ≡ now → Written (k + 1) v next before
-    writes_none k w v now next before e inv count same = (
-      count ∙ (inv.0 ∙ ap length (sym (places_left k e))),
-      same ∙ (inv.1 ∙ (passed k w before e ∙ ap (λ n. side_allotments side os fill (k + 1) ++ drop n before) (sym count))),
-    )
-
 not_buy : (s : Side) → same_side Sell s ≡ not (same_side Buy s)
 not_buy Buy = refl
 not_buy Sell = refl

@@ -19,7 +19,7 @@ use Rattle.cross.proofs.ThreeSteps.{
 
 -- the tie-breaker with its half dropped, moved into the range
 abbrev pub middle : (lowest highest twice : ℕ) → ℕ
-middle lo hi t = max lo (min hi (t / 2))
+middle lo hi t = max lo (min (t / 2) hi)
 
 -- ---- the middle comes before each price of the range, and a price to one side of it before those further on
 

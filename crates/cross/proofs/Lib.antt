@@ -6,7 +6,6 @@ pub mod ClearingPrice
 pub mod Bisection
 pub mod Searching
 pub mod GivingOut
-pub mod AheadSteps
 pub mod Allotting
 pub mod Queueing
 pub mod PlaceSums

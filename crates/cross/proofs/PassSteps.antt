@@ -1,7 +1,6 @@
--- A pass over a list, an order at a time: the sums of the orders passed, and a bound of each.
-use Rattle.std.proofs.Common.{◌≡◌, ℕ, ◌+◌, ◌*◌, ◌<◌, ◌≤◌, Bool, true, false, cond, ◌&&◌, ltb, leb, List, [], ◌∷◌, length, get_or, take, fold, sum_by, sym, refl, ap, ◌∙◌, arith}
-use Rattle.std.proofs.lemmas.List.{take_all}
-use Rattle.std.proofs.lemmas.List.Sums.{sum_by_more}
+-- A pass over a list, an order at a time: the sums of the orders passed, and the room that is left for those ahead.
+use Rattle.std.proofs.Common.{◌≡◌, ℕ, suc, ◌+◌, ◌*◌, ◌<◌, ◌≤◌, Bool, true, false, cond, ◌&&◌, ltb, leb, List, [], ◌∷◌, length, get_or, take, fold, sum_by, sym, refl, ap, ◌∙◌, arith}
+use Rattle.std.proofs.lemmas.List.Sums.{sum_by-cons}
 use Rattle.std.proofs.lemmas.Bool.Decides.{nat_tests}
 use Rattle.market.specs.declared.order.OrderTerms.{OrderTerms}
 use Rattle.market.specs.Orders.{Sound}
@@ -10,53 +9,75 @@ use Rattle.book.specs.Lists.{ranged}
 use Rattle.cross.specs.declared.depth.Depth.{Depth}
 use Rattle.cross.specs.Depth.{buys, sells}
 use Rattle.cross.specs.Limits.{buy_shares, buy_shares_above, limit_of, sell_shares, sell_shares_below}
-use Rattle.cross.specs.Passes.{depth_at, depth_by_limits}
+use Rattle.cross.specs.Passes.{Adds, Room, depth_at, depth_by_limits}
 
--- a sum of n orders at most
-abbrev pub Small : (n : ℕ) → Depth → Type 0
-Small n d = (d.bought ≤ 1000000 * n) × (d.sold ≤ 1000000 * n) × (d.bought_above ≤ 1000000 * n) × (d.sold_below ≤ 1000000 * n)
-
-pub at_most_shares : (b : Bool) (o : OrderTerms) → cond b o.shares 0 ≤ o.shares
+at_most_shares : (b : Bool) (o : OrderTerms) → cond b o.shares 0 ≤ o.shares
 at_most_shares true o = omega arith
 at_most_shares false o = omega arith
 
--- one more order
-pub sum_more : (f : OrderTerms → ℕ) (os : List OrderTerms) (k : ℕ) (o : OrderTerms) → k < length os → o ≡ get_or os k o
-    → sum_by f (take (k + 1) os) ≡ sum_by f (take k os) + f o
-sum_more f os k o h e = sum_by_more f os k o h ∙ ap (λ x. sum_by f (take k os) + f x) (sym e)
-
-pub same_depth : (d e : Depth) → d.bought ≡ e.bought → d.sold ≡ e.sold → d.bought_above ≡ e.bought_above → d.sold_below ≡ e.sold_below → d ≡ e
+same_depth : (d e : Depth) → d.bought ≡ e.bought → d.sold ≡ e.sold → d.bought_above ≡ e.bought_above → d.sold_below ≡ e.sold_below → d ≡ e
 same_depth d e b s a u = λ i. record { bought = b i; sold = s i; bought_above = a i; sold_below = u i }
-
--- the depth with one order more
-pub record Adds (p : ℕ) (o : OrderTerms) (d e : Depth) : Type 0 where
-  pub bought : e.bought ≡ d.bought + buy_shares p o
-  pub sold : e.sold ≡ d.sold + sell_shares p o
-  pub above : e.bought_above ≡ d.bought_above + buy_shares_above p o
-  pub below : e.sold_below ≡ d.sold_below + sell_shares_below p o
 
 pub shares_small : (o : OrderTerms) → Sound o → o.shares ≤ 1000000
 shares_small o s = let few = s.1 in grind (arith, nat_tests)
 
-pub pass_more : (p : ℕ) (os : List OrderTerms) (k : ℕ) (o : OrderTerms) (d e : Depth) → k < length os → o ≡ get_or os k o → Sound o
-    → d ≡ depth_by_limits p (take k os) → Small k d → Adds p o d e → (e ≡ depth_by_limits p (take (k + 1) os)) × Small (k + 1) e
-pass_more p os k o d e h q s same small adds =
-    let few = shares_small o s in (
-      same_depth e (depth_by_limits p (take (k + 1) os))
-          (adds.bought ∙ (ap (λ (x : Depth). x.bought + buy_shares p o) same ∙ sym (sum_more (buy_shares p) os k o h q)))
-          (adds.sold ∙ (ap (λ (x : Depth). x.sold + sell_shares p o) same ∙ sym (sum_more (sell_shares p) os k o h q)))
-          (adds.above ∙ (ap (λ (x : Depth). x.bought_above + buy_shares_above p o) same ∙ sym (sum_more (buy_shares_above p) os k o h q)))
-          (adds.below ∙ (ap (λ (x : Depth). x.sold_below + sell_shares_below p o) same ∙ sym (sum_more (sell_shares_below p) os k o h q))),
-      (
-        omega (arith, adds.bought, small.0, few, at_most_shares (buys o.side && leb p (limit_of o.price)) o),
-        omega (arith, adds.sold, small.1, few, at_most_shares (sells o.side && leb (limit_of o.price) p) o),
-        omega (arith, adds.above, small.2, few, at_most_shares (buys o.side && ltb p (limit_of o.price)) o),
-        omega (arith, adds.below, small.3, few, at_most_shares (sells o.side && ltb (limit_of o.price) p) o),
-      ),
-    )
+-- the depth of the orders passed, with what those still ahead add, is that of all, and there is room for them
+pub record Passing (p : ℕ) (ahead os : List OrderTerms) (d : Depth) : Type 0 where
+  pub bought : d.bought + sum_by (buy_shares p) ahead ≡ sum_by (buy_shares p) os
+  pub sold : d.sold + sum_by (sell_shares p) ahead ≡ sum_by (sell_shares p) os
+  pub above : d.bought_above + sum_by (buy_shares_above p) ahead ≡ sum_by (buy_shares_above p) os
+  pub below : d.sold_below + sum_by (sell_shares_below p) ahead ≡ sum_by (sell_shares_below p) os
+  pub room : Room (length ahead) d
 
-pub pass_all : (p : ℕ) (os : List OrderTerms) (k : ℕ) (d : Depth) → length os ≤ k → d ≡ depth_by_limits p (take k os) → d ≡ depth_by_limits p os
-pass_all p os k d h e = e ∙ ap (depth_by_limits p) (take_all k os h)
+pub pass_begins : (p : ℕ) (ahead os : List OrderTerms) (d : Depth) → ahead ≡ os → length os ≤ 4096
+    → (d.bought ≡ 0) × ((d.sold ≡ 0) × ((d.bought_above ≡ 0) × (d.sold_below ≡ 0))) → Passing p ahead os d
+pass_begins p ahead os d all short none =
+    let long = ap length all in
+    record {
+      bought = omega (arith, none.0, ap (sum_by (buy_shares p)) all);
+      sold = omega (arith, none.1.0, ap (sum_by (sell_shares p)) all);
+      above = omega (arith, none.1.1.0, ap (sum_by (buy_shares_above p)) all);
+      below = omega (arith, none.1.1.1, ap (sum_by (sell_shares_below p)) all);
+      room = (omega (arith, none.0, long), omega (arith, none.1.0, long), omega (arith, none.1.1.0, long), omega (arith, none.1.1.1, long));
+    }
+
+-- ---- where another order is next
+
+module _ (p : ℕ) (ahead rest os : List OrderTerms) (d : Depth) (o : OrderTerms) (step : ahead ≡ o ∷ rest) (passing : Passing p ahead os d) where
+  long : length ahead ≡ suc (length rest)
+  long = ap length step
+
+  pub room_for_one : Room 1 d
+  room_for_one = let room = passing.room in (omega (arith, long), omega (arith, long), omega (arith, long), omega (arith, long))
+
+  next_sum : (f : OrderTerms → ℕ) → sum_by f ahead ≡ f o + sum_by f rest
+  next_sum f = ap (sum_by f) step ∙ sum_by-cons f o rest
+
+  pub pass_one : (e : Depth) → Sound o → Adds p o d e → Passing p rest os e
+  pass_one e sound adds =
+      let few = shares_small o sound in
+      let room = passing.room in
+      record {
+        bought = omega (arith, passing.bought, adds.bought, next_sum (buy_shares p));
+        sold = omega (arith, passing.sold, adds.sold, next_sum (sell_shares p));
+        above = omega (arith, passing.above, adds.above, next_sum (buy_shares_above p));
+        below = omega (arith, passing.below, adds.below, next_sum (sell_shares_below p));
+        room = (
+          omega (arith, long, adds.bought, room.0, few, at_most_shares (buys o.side && leb p (limit_of o.price)) o),
+          omega (arith, long, adds.sold, room.1, few, at_most_shares (sells o.side && leb (limit_of o.price) p) o),
+          omega (arith, long, adds.above, room.2, few, at_most_shares (buys o.side && ltb p (limit_of o.price)) o),
+          omega (arith, long, adds.below, room.3, few, at_most_shares (sells o.side && ltb (limit_of o.price) p) o),
+        );
+      }
+
+pub pass_ends : (p : ℕ) (ahead os : List OrderTerms) (d : Depth) → ahead ≡ [] → Passing p ahead os d → d ≡ depth_by_limits p os
+pass_ends p ahead os d none passing =
+    let nothing : (f : OrderTerms → ℕ) → sum_by f ahead ≡ 0 = λ f. ap (sum_by f) none in
+    same_depth d (depth_by_limits p os)
+    (omega (arith, passing.bought, nothing (buy_shares p)))
+    (omega (arith, passing.sold, nothing (sell_shares p)))
+    (omega (arith, passing.above, nothing (buy_shares_above p)))
+    (omega (arith, passing.below, nothing (sell_shares_below p)))
 
 -- ---- counting prices first, or counting as one goes
 

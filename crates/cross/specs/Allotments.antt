@@ -13,6 +13,10 @@ use Rattle.cross.specs.Rankings.{same_side}
 abbrev pub side_places : Side → List OrderTerms → (n : ℕ) → List ℕ
 side_places side os n = filter (λ i. same_side side (at_place os i).side) (range_with_len 0 n)
 
+-- how many orders are of a side
+abbrev pub side_count : Side → List OrderTerms → ℕ
+side_count side os = length (side_places side os (length os))
+
 abbrev pub allotment : (ℕ → ℕ) → ℕ → Allotment
 allotment fill i = record { place = i; fill = fill i }
 

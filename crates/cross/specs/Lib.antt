@@ -7,6 +7,7 @@ pub mod Rankings
 pub mod Fills
 pub mod Allotments
 pub mod Queues
+pub mod Levels
 pub mod QueueOrder
 pub mod Crosses
 pub mod Crossing

@@ -26,7 +26,7 @@ same_buys Sell Sell = refl
 
 -- ---- a test that ranks answers as a total order does
 
-less_is : (b c : Bool) → is_lt (cond b Less (cond c Greater Equal)) ≡ b
+pub less_is : (b c : Bool) → is_lt (cond b Less (cond c Greater Equal)) ≡ b
 less_is true c = refl
 less_is false true = refl
 less_is false false = refl
@@ -117,21 +117,3 @@ module _ (good : OrderTerms → OrderTerms → Bool) (laws : Laws good) where
 
     pub total : IsTotalOrder compared
     total = total_from_ranks earlier ranked
-
-    -- what a sort by it ensures
-    pub sorted : (xs : List X) → IsSorted compared xs → IsSortedBy earlier xs
-    sorted xs up k d l h =
-        let x = get_or xs (k + 1) d in
-        let y = get_or xs k d in
-        sym (less_is (earlier x y) (earlier y x)) ∙ up k d l h
-
-    -- ---- the laws of its comparisons
-
-    pub alike_laws : IsEquivalence (eq_by_cmp compared)
-    alike_laws = eq_by_cmp_equiv total
-
-    pub equal_laws : IsPartialEquivalence (eq_by_cmp compared)
-    equal_laws = partial_equiv_from_equiv alike_laws
-
-    pub partial_laws : IsPartialOrder (eq_by_cmp compared) (as_partial_cmp compared)
-    partial_laws = po total (λ x y. refl)

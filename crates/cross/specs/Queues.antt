@@ -1,11 +1,12 @@
 -- The queue of a side's orders for their fills, and what giving out shares along it writes.
-use Rattle.std.specs.Prelude.{◌≡◌, ℕ, ◌-◌, min, Bool, true, cond, not, ◌&&◌, ◌||◌, List, [], ◌∷◌, map, length, set, nat_lt}
+use Rattle.std.specs.Prelude.{◌≡◌, ℕ, ◌-◌, ◌<◌, min, Bool, true, cond, not, ◌&&◌, ◌||◌, List, [], ◌∷◌, map, length, set, nat_lt}
 use Rattle.std.specs.declared.cmp.Ordering.TheVariants.{Less, Equal, Greater}
 use Rattle.std.specs.declared.cmp.Ordering.{Ordering}
-use Rattle.std.specs.List.{range_with_len, AllByRecursion}
+use Rattle.std.specs.List.{range_with_len, All}
 use Rattle.market.specs.declared.order.Side.{Side}
 use Rattle.market.specs.declared.order.OrderTerms.{OrderTerms}
 use Rattle.cross.specs.declared.allotment.Allotment.{Allotment}
+use Rattle.cross.specs.declared.queue.Queued.{Queued}
 use Rattle.cross.specs.Allotments.{side_places}
 use Rattle.cross.specs.Depth.{buys, sells}
 use Rattle.cross.specs.Fills.{at_place, willing}
@@ -23,16 +24,19 @@ module _ (good : OrderTerms → OrderTerms → Bool) where
 abbrev pub asks : (lowest highest price : ℕ) → OrderTerms → ℕ
 asks lo hi p o = cond (willing lo hi p o) o.shares 0
 
--- a queue of orders, each with its place in the book and the record of the list that is its own
-module _ {X : Type 0} (terms : X → OrderTerms) (place slot : X → ℕ) where
-  -- it holds the orders of a side among the first n, the k-th with the record k
-  pub record Queue (side : Side) (os : List OrderTerms) (n : ℕ) (queue : List X) : Type 0 where
-    pub places : map place queue ≡ side_places side os n
-    pub slots : map slot queue ≡ range_with_len 0 (length queue)
-    pub orders : AllByRecursion (λ q. (terms q ≡ at_place os (place q)) × (same_side side (terms q).side ≡ true)) queue
+-- A queue of orders, each with its place in the book and the record of the list that is its own: it holds the orders of
+-- a side among the first n, the k-th with the record k.
+pub record Queue (side : Side) (os : List OrderTerms) (n : ℕ) (queue : List Queued) : Type 0 where
+  pub places : map (λ q. q.place) queue ≡ side_places side os n
+  pub slots : map (λ q. q.slot) queue ≡ range_with_len 0 (length queue)
+  pub orders : All (λ q. (q.order.terms ≡ at_place os q.place) × (same_side side q.order.terms.side ≡ true)) queue
 
-  -- what a list holds once e shares are given out along the queue, to each order what it asks for while they last
-  abbrev pub given_out : (ask : OrderTerms → ℕ) → List X → (e : ℕ) → List Allotment → List Allotment
-  given_out ask [] e list = list
-  given_out ask (q ∷ queue) e list =
-      given_out ask queue (e - ask (terms q)) (set list (slot q) (record { place = place q; fill = min (ask (terms q)) e }))
+-- the record of an order is among the first m of a list
+abbrev pub HasRecord : (m : ℕ) → Queued → Type 0
+HasRecord m q = (q.slot < m) × (q.slot < 4096)
+
+-- what a list holds once e shares are given out along the queue, to each order what it asks for while they last
+abbrev pub given_out : (ask : OrderTerms → ℕ) → List Queued → (e : ℕ) → List Allotment → List Allotment
+given_out ask [] e list = list
+given_out ask (q ∷ queue) e list =
+    given_out ask queue (e - ask q.order.terms) (set list q.slot (record { place = q.place; fill = min (ask q.order.terms) e }))

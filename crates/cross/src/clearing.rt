@@ -1,11 +1,10 @@
 //! The clearing price of a book in a range.
 
-ghost use Rattle.std.specs.Prelude.{◌≡◌, ◌≤◌, true, false};
+ghost use Rattle.std.specs.Prelude.{◌≡◌, true, false};
 ghost use Rattle.cross.specs.Clearing.{clearing_price};
-ghost use Rattle.cross.specs.Serving.{First, served, serves};
+ghost use Rattle.cross.specs.Serving.{First, served_in, serves};
 
 use crate::depth::Depth;
-use crate::depth::figures::ranged_depth;
 use book::Book;
 use book::lent::Lent;
 use book::ranged::Ranged;
@@ -26,19 +25,19 @@ impl Depth {
 }
 
 /// The first served price on the way from an unserved price to a served one: a bisection, one pass to a step.
-fn first_served<B: Book + Drop>(ranged: &Ranged<B>, side: Side, from: u32, to: u32) -> u32
-    requires unserved { served ranged.now.range.lowest.cents ranged.now.range.highest.cents (B.Book.orders ranged.now.book) side from ≡ false }
-    requires served { served ranged.now.range.lowest.cents ranged.now.range.highest.cents (B.Book.orders ranged.now.book) side to ≡ true }
-    requires from_within { from ≤ 20000000 }
-    requires to_within { to ≤ 20000000 }
-    ensures served { served ranged.now.range.lowest.cents ranged.now.range.highest.cents (B.Book.orders ranged.now.book) side result ≡ true }
-    ensures first { First (served ranged.now.range.lowest.cents ranged.now.range.highest.cents (B.Book.orders ranged.now.book) side) from to result }
+fn first_served<B: Book + Drop>(ranged: &Ranged<B>, side: Side, from: Price, to: Price) -> Price
+    requires unserved { served_in B.Book.orders ranged.now side from.cents ≡ false }
+    requires served { served_in B.Book.orders ranged.now side to.cents ≡ true }
+    ensures served { served_in B.Book.orders ranged.now side result.cents ≡ true }
+    ensures first { First (served_in B.Book.orders ranged.now side) from.cents to.cents result.cents }
 {
     let mut unserved = from;
     let mut found = to;
-    while found.abs_diff(unserved) > 1 {
-        let middle = (unserved + found) / 2;
-        if ranged_depth(ranged, middle).serves(side) {
+    while found.cents.abs_diff(unserved.cents) > 1 {
+        let middle = Price {
+            cents: (unserved.cents + found.cents) / 2,
+        };
+        if Depth::at(ranged, middle).serves(side) {
             found = middle;
         } else {
             unserved = middle;
@@ -49,15 +48,14 @@ fn first_served<B: Book + Drop>(ranged: &Ranged<B>, side: Side, from: u32, to: u
 
 /// From the price nearest to the tie-breaker: if its better-priced buys are unserved the price rises, if its
 /// better-priced sells are, it falls.
-fn search<B: Book + Drop>(ranged: &Ranged<B>, twice: u32) -> u32
-    ensures value { result ≡ clearing_price ranged.now.range.lowest.cents ranged.now.range.highest.cents twice (B.Book.orders ranged.now.book) }
-    ensures low { ranged.now.range.lowest.cents ≤ result }
-    ensures high { result ≤ ranged.now.range.highest.cents }
+fn search<B: Book + Drop>(ranged: &Ranged<B>, twice: u32) -> Price
+    ensures { result.cents ≡ clearing_price ranged.now.range.lowest.cents ranged.now.range.highest.cents twice (B.Book.orders ranged.now.book) }
 {
-    let lowest = ranged.range.lowest.cents;
-    let highest = ranged.range.highest.cents;
-    let middle = (twice / 2).min(highest).max(lowest);
-    let depth = ranged_depth(ranged, middle);
+    let PriceRange { lowest, highest } = ranged.range;
+    let middle = Price {
+        cents: (twice / 2).clamp(lowest.cents, highest.cents),
+    };
+    let depth = Depth::at(ranged, middle);
     if !depth.serves(Side::Buy) {
         return first_served(ranged, Side::Buy, middle, highest);
     }
@@ -75,7 +73,5 @@ pub fn clearing_price<B: Book>(book: &B, range: PriceRange, twice: u32) -> Price
         book: Lent { book },
         range,
     };
-    Price {
-        cents: search(&ranged, twice),
-    }
+    search(&ranged, twice)
 }

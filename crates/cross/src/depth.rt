@@ -1,10 +1,10 @@
 //! The shares of a book at a price.
 
-pub(crate) mod figures;
+mod figures;
 mod pass;
 
 /// The shares of the orders of a book at a price, by their counted prices in a range.
-#[derive(Clone, Copy, PartialEq, Eq, Debug)]
+#[derive(Clone, Copy, PartialEq, Eq, Debug, Default)]
 pub struct Depth {
     /// Shares willing to buy at the price.
     pub bought: u32,

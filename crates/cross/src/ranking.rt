@@ -36,18 +36,11 @@ fn is_better(side: Side, a: OrderPrice, b: OrderPrice) -> bool
     }
 }
 
-/// Whether two sides are one.
-pub(crate) fn is_same_side(a: Side, b: Side) -> bool
-    ensures { result ≡ same_side a b }
-{
-    a == b
-}
-
 /// By price, and of the same price by what a second rule says.
 fn by_price_then(a: OrderTerms, b: OrderTerms, then: bool) -> bool
     ensures { result ≡ (same_side a.side b.side && (better_price a.side a.price b.price || (not (better_price a.side b.price a.price) && then))) }
 {
-    is_same_side(a.side, b.side)
+    a.side == b.side
         && (is_better(a.side, a.price, b.price) || (!is_better(a.side, b.price, a.price) && then))
 }
 

@@ -1,9 +1,8 @@
-//! The list of a cross beside the one that the plain fills give, record by record.
+//! The list of a cross, record by record.
 
 ghost use Rattle.std.specs.Prelude.{◌≤◌, length, map};
 
 use crate::allotment::Allotment;
-use crate::allotment::writing::write_side;
 use crate::crossing::cross;
 use crate::ranking::{ByDisplay, ByShares, Ranking};
 use book::Book;
@@ -44,7 +43,8 @@ fn order(side: Side, cents: u32, shares: u32, entry: u16, displayed: bool) -> Re
     })?)
 }
 
-/// Crosses eight orders, two of them alike, between two prices: both lists have these fills, and the ninth stays.
+/// Crosses eight orders, two of them alike, between two prices: the list has the buys, then the sells, with these fills,
+/// and the ninth record stays.
 fn crosses<R: Ranking>(rt: &impl Abort, low: u32, high: u32, fills: [u32; 9]) -> Result<(), Fail> {
     let orders = [
         order(Side::Buy, 1030, 5, 7, true)?,
@@ -59,18 +59,15 @@ fn crosses<R: Ranking>(rt: &impl Abort, low: u32, high: u32, fills: [u32; 9]) ->
     let book = Listed { orders: &orders };
     let range = PriceRange::new(Price::new(low)?, Price::new(high)?)?;
     let mut list = [Allotment { place: 9, fill: 9 }; 9];
-    let mut plain = list;
-    let done = cross::<_, R>(&book, range, range.twice_middle(), &mut list)?;
-    let (cents, shares) = (done.price.cents, done.executed);
-    let buys = write_side::<_, R>(&book, range, cents, shares, Side::Buy, &mut plain);
-    write_side::<_, R>(&book, range, cents, shares, Side::Sell, &mut plain[buys..]);
-    assert_eq!(rt; list.as_slice(), plain.as_slice());
+    cross::<_, R>(&book, range, range.twice_middle(), &mut list)?;
+    let places = [0, 2, 4, 5, 7, 1, 3, 6, 9];
+    assert_eq!(rt; list.map(|record| record.place), places);
     assert_eq!(rt; list.map(|record| record.fill), fills);
     Ok(())
 }
 
 #[test]
-fn a_cross_writes_the_plain_fills(rt: HostRuntime) -> Result<(), Fail> {
+fn a_cross_writes_the_fills(rt: HostRuntime) -> Result<(), Fail> {
     crosses::<ByDisplay>(&rt, 1000, 1020, [5, 0, 0, 5, 2, 4, 5, 3, 9])?;
     crosses::<ByDisplay>(&rt, 1030, 1040, [5, 0, 0, 0, 0, 4, 0, 1, 9])?;
     crosses::<ByShares>(&rt, 1000, 1020, [5, 0, 6, 1, 0, 4, 5, 3, 9])?;

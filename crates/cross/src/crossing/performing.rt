@@ -1,6 +1,6 @@
 //! The cross of any book under any ranking.
 
-ghost use Rattle.std.specs.Prelude.{◌≡◌, ◌<◌, ◌≤◌, length, MatchResult};
+ghost use Rattle.std.specs.Prelude.{◌≡◌, ◌<◌, length, MatchResult};
 ghost use Rattle.market.specs.Causes.{at, cause};
 ghost use Rattle.cross.specs.Crossing.{Crossed};
 
@@ -9,25 +9,11 @@ use crate::allotment::Allotment;
 use crate::allotment::writing::allot;
 use crate::clearing::clearing_price;
 use crate::depth::Depth;
+use crate::level::Level;
 use crate::ranking::Ranking;
 use book::Book;
 use market::range::PriceRange;
 use market::refusal::Refusal;
-
-fn perform<B: Book, R: Ranking>(
-    book: &B,
-    range: PriceRange,
-    twice: u32,
-    list: &mut [Allotment],
-) -> Crossing
-    requires { length (B.Book.orders book.now) ≤ length list.old }
-    ensures { Crossed range.lowest.cents range.highest.cents R.Ranking.good (B.Book.orders book.now) twice list.old list.new result }
-{
-    let price = clearing_price(book, range, twice);
-    let executed = Depth::of(book, range, price).executed();
-    allot::<B, R>(book, range, price.cents, executed, list);
-    Crossing { price, executed }
-}
 
 /// Crosses a book in a range: writes the fill of each order into the allotment list, the buys first by rising place
 /// and right behind them the sells, and answers the price and the shares executed. `twice` is twice the tie-breaker.
@@ -43,5 +29,13 @@ pub fn cross<B: Book, R: Ranking>(
     if list.len() < book.count() {
         return Err(Refusal::AllotmentShort);
     }
-    Ok(perform::<B, R>(book, range, twice, list))
+    let price = clearing_price(book, range, twice);
+    let executed = Depth::of(book, range, price).executed();
+    let level = Level {
+        range,
+        price,
+        executed,
+    };
+    allot::<B, R>(book, level, list);
+    Ok(Crossing { price, executed })
 }

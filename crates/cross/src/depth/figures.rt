@@ -10,14 +10,14 @@ use book::ranged::Ranged;
 use market::price::Price;
 use market::range::PriceRange;
 
-/// The depth of a book in its range.
-pub(crate) fn ranged_depth<B: Book + Drop>(ranged: &Ranged<B>, cents: u32) -> Depth
-    ensures { result ≡ depth_at ranged.now.range.lowest.cents ranged.now.range.highest.cents cents (B.Book.orders ranged.now.book) }
-{
-    Depth::by_limits(ranged, cents)
-}
-
 impl Depth {
+    /// The depth of a book in its range at a price.
+    pub(crate) fn at<B: Book + Drop>(ranged: &Ranged<B>, price: Price) -> Depth
+        ensures { result ≡ depth_at ranged.now.range.lowest.cents ranged.now.range.highest.cents price.cents (B.Book.orders ranged.now.book) }
+    {
+        Depth::by_limits(ranged, price)
+    }
+
     /// The depth of a book at a price, by counted prices in a range: one pass over the book.
     pub fn of<B: Book>(book: &B, range: PriceRange, price: Price) -> Depth
         ensures { result ≡ depth_at range.lowest.cents range.highest.cents price.cents (B.Book.orders book.now) }
@@ -26,7 +26,7 @@ impl Depth {
             book: Lent { book },
             range,
         };
-        ranged_depth(&ranged, price.cents)
+        Depth::at(&ranged, price)
     }
 
     /// The shares that execute at the price.

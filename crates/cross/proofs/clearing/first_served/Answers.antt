@@ -1,24 +1,18 @@
 -- The bisection from its beginning to its end.
 use Rattle.std.proofs.Common.{arith}
-use Rattle.cross.specs.Serving.{served}
+use Rattle.cross.specs.Serving.{served_in}
 use Rattle.cross.proofs.Bisection.{way_begins, way_ends}
 use Rattle.cross.proofs.clearing.first_served.Goals as goal
 
 pub loop-side-init : goal.loop-side-init
-loop-side-init g c =
-    let ranged = c.args.ranged.now in (
-      c.requires.unserved,
-      c.requires.served,
-      way_begins (served ranged.range.lowest.cents ranged.range.highest.cents (g.B.Book.orders ranged.book) c.args.side) c.args.from c.args.to c.requires.unserved c.requires.served,
-    )
+loop-side-init g c = (
+  c.requires.unserved,
+  c.requires.served,
+  way_begins (served_in g.B.Book.orders c.args.ranged.now c.args.side) _ _ c.requires.unserved c.requires.served,
+)
 
 pub returns : goal.returns
-returns g c =
-    let ranged = c.args.ranged.now in
-    record {
-      served = c.loop-side.invariant.1;
-      first = way_ends (served ranged.range.lowest.cents ranged.range.highest.cents (g.B.Book.orders ranged.book) c.args.side) c.args.from c.args.to c.loop-side.unserved c.loop-side.found
-          c.loop-side.invariant.0
-          c.loop-side.invariant.2
-          (omega arith);
-    }
+returns g c = record {
+  served = c.loop-side.invariant.1;
+  first = way_ends (served_in g.B.Book.orders c.args.ranged.now c.args.side) _ _ _ _ c.loop-side.invariant.0 c.loop-side.invariant.2 (omega arith);
+}

@@ -3,7 +3,7 @@ use Rattle.std.proofs.Common.{◌≡◌, ◌+◌, ◌-◌, ◌≤◌, ◌++◌, 
 use Rattle.std.proofs.lemmas.List.{append_assoc, length-drop, take_rest}
 use Rattle.market.specs.declared.order.Side.TheVariants.{Buy, Sell}
 use Rattle.cross.specs.Allotments.{side_allotments}
-use Rattle.cross.specs.Fills.{fill}
+use Rattle.cross.specs.Levels.{fill_at}
 use Rattle.cross.proofs.Allotting.{length_allotments, places_within, rear_written, sides_all}
 use Rattle.cross.proofs.allotment.writing.allot.Given as given
 use Rattle.cross.proofs.allotment.writing.allot.Goals as goal
@@ -40,7 +40,7 @@ serve_side-requires g c =
 pub returns : goal.returns
 returns g c =
     let os = g.B.Book.orders c.args.book.now in
-    let f = fill c.args.range.lowest.cents c.args.range.highest.cents g.R.Ranking.good os c.args.price c.args.executed in
+    let f = fill_at c.args.level g.R.Ranking.good os in
     let n = c.serve_side-buys.result in
     let l = c.serve_side-buys.new.list in
     let long : length (side_allotments Buy os f (length os)) ≡ n = length_allotments Buy os f (length os) ∙ sym c.serve_side-buys.ensures.count in

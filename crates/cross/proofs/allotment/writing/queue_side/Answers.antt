@@ -1,59 +1,62 @@
 -- The orders of a side, a place at a time.
-use Rattle.std.proofs.Common.{◌<◌, ◌≤◌, length, sym, refl, ap, ◌∙◌, arith}
-use Rattle.market.specs.declared.order.OrderTerms.{OrderTerms}
-use Rattle.cross.specs.declared.queue.Queued.{Queued}
+use Rattle.std.proofs.Common.{◌≡◌, true, false, refl, arith, rules}
 use Rattle.cross.specs.Rankings.{same_side}
-use Rattle.cross.proofs.AheadSteps.{found_at}
-use Rattle.cross.proofs.Allotting.{places_within, room}
-use Rattle.cross.proofs.Queueing.{queues_none, queues_one}
-use Rattle.cross.proofs.allotment.writing.queue_side.Given as given
+use Rattle.cross.proofs.Queueing.{few_queued, place_within, queueing_begins, queueing_ends, queues_none, queues_one}
 use Rattle.cross.proofs.allotment.writing.queue_side.Goals as goal
-use Rattle.cross.proofs.allotment.writing.queue_side.Goals.{in-Some+then-is_same_side, in-Some+else-is_same_side, in_default}
+use Rattle.cross.proofs.allotment.writing.queue_side.Goals.{then-eq, else-eq}
 
-has_room : (g : given.Over) (c : goal.Then-is_same_side g) → c.loop-place.count < length c.args.queue.now
-has_room g c =
-    let os = g.B.Book.orders c.args.book.now in
-    let found = c.in-Some.ensures in
-    let at = found_at os c.loop-place.place c.in-Some.order.terms found.0 found.1 in
-    let mine = ap (λ (o : OrderTerms). same_side c.args.side o.side) (sym at) ∙ sym c.if-is_same_side.ensures in
-    room c.args.side os (length os) c.loop-place.place c.loop-place.count (length c.args.queue.now) found.0 mine c.loop-place.invariant.0
-    (omega (arith, places_within c.args.side os (length os), c.requires))
+pub loop-place-init : goal.loop-place-init
+loop-place-init g c = record {
+  can_next = search rules;
+  ends = search rules;
+  queueing = queueing_begins c.args.side _ _ c.args.queue.now c.iter-order-items.ensures;
+}
 
-few : (g : given.Over) (c : goal.Then-is_same_side g) → c.loop-place.count ≤ 4096
-few g c =
-    let os = g.B.Book.orders c.args.book.now in
-    let found = c.in-Some.ensures in
-    omega (arith, places_within c.args.side os c.loop-place.place, c.loop-place.invariant.0, found.0, g.B.Book.short c.args.book.now)
-
-pub offset_bounds-queue-count : goal.offset_bounds-queue-count
-offset_bounds-queue-count g c = omega (arith, few g c)
+pub overflow_step-place : goal.overflow_step-place
+overflow_step-place g c =
+    omega (arith, place_within _ _ _ _ _ _ _ _ c.in-Some.ensures.steps c.loop-place.invariant.queueing, g.B.Book.short c.args.book.now)
 
 pub bounds-queue-count : goal.bounds-queue-count
-bounds-queue-count g c = omega (arith, has_room g c, c.loop-place.auto.queue)
+bounds-queue-count g c =
+    omega (
+      arith,
+      place_within _ _ _ _ _ _ _ _ c.in-Some.ensures.steps c.loop-place.invariant.queueing,
+      few_queued _ _ _ _ _ _ _ _ c.in-Some.ensures.steps c.loop-place.invariant.queueing,
+      c.loop-place.auto.queue,
+      c.requires
+    )
 
-pub overflow_add-count : goal.overflow_add-count
-overflow_add-count g c = omega (arith, few g c)
+pub offset_bounds-queue-count : goal.offset_bounds-queue-count
+offset_bounds-queue-count g c =
+    omega (
+      arith,
+      place_within _ _ _ _ _ _ _ _ c.in-Some.ensures.steps c.loop-place.invariant.queueing,
+      few_queued _ _ _ _ _ _ _ _ c.in-Some.ensures.steps c.loop-place.invariant.queueing,
+      g.B.Book.short c.args.book.now
+    )
 
 pub loop-place-preserved : goal.loop-place-preserved
 loop-place-preserved g c =
-    let os = g.B.Book.orders c.args.book.now in
-    let side = c.args.side in
-    let k = c.loop-place.place in
-    elim c.match-order.branch [
-      | in-Some+then-is_same_side w ↦
-          let found = w.in-Some.ensures in
-          let at = found_at os k w.in-Some.order.terms found.0 found.1 in
-          let own = sym w.if-is_same_side.ensures in
-          let mine = ap (λ (o : OrderTerms). same_side side o.side) (sym at) ∙ own in
-          let free : c.loop-place.count < length c.loop-place.queue
-          = omega (arith, c.loop-place.auto.queue, room side os (length os) k c.loop-place.count (length c.args.queue.now) found.0 mine c.loop-place.invariant.0 (omega (arith, places_within side os (length os), c.requires))) in
-          queues_one (λ (q : Queued g.row.R.Denot). q.order.terms) (λ q. q.place) (λ q. q.slot) side os k c.loop-place.count c.match-order.count c.loop-place.queue c.match-order.queue _
-          c.loop-place.invariant free w.count-is w.queue-is own refl refl at
-      | in-Some+else-is_same_side w ↦
-          let found = w.in-Some.ensures in
-          let at = found_at os k w.in-Some.order.terms found.0 found.1 in
-          let other = ap (λ (o : OrderTerms). same_side side o.side) (sym at) ∙ sym w.if-is_same_side.ensures in
-          queues_none (λ (q : Queued g.row.R.Denot). q.order.terms) (λ q. q.place) (λ q. q.slot) side os k c.loop-place.count c.match-order.count c.loop-place.queue c.match-order.queue
-          c.loop-place.invariant w.count-is w.queue-is other
-      | in_default w ↦ absurd (omega (arith, w.in_default.ensures, c.count-place-end.ensures))
+    let step = c.in-Some.ensures.steps in
+    let here = c.loop-place.invariant.queueing in
+    elim c.if-eq.branch [
+      | then-eq w ↦
+          let mine : same_side c.in-Some.order.terms.side c.args.side ≡ true = search rules in
+          record {
+            can_next = search rules;
+            ends = search rules;
+            queueing = rw (w.count-is, w.queue-is) (queues_one _ _ _ _ _ _ _ _ step here _ refl refl refl mine (omega (arith, c.loop-place.auto.queue, c.requires)));
+          }
+      | else-eq w ↦
+          let other : same_side c.in-Some.order.terms.side c.args.side ≡ false = search rules in
+          record {
+            can_next = search rules;
+            ends = search rules;
+            queueing = rw (w.count-is, w.queue-is) (queues_none _ _ _ _ _ _ _ _ step here other);
+          }
     ]
+
+pub returns : goal.returns
+returns g c =
+    let all = queueing_ends _ _ _ _ _ _ c.in-None.ensures.steps.0 c.loop-place.invariant.queueing in
+    record { count = all.0; queued = all.1 }

@@ -7,7 +7,7 @@ use Rattle.cross.specs.Depth.{executed}
 use Rattle.cross.specs.Fills.{fill}
 use Rattle.cross.proofs.BestCross.{best}
 use Rattle.cross.proofs.FillSums.{fair, fills_sum}
-use Rattle.cross.proofs.crossing.performing.perform.Goals as goal
+use Rattle.cross.proofs.crossing.performing.cross.Goals as goal
 
 pub returns : goal.returns
 returns g c =
