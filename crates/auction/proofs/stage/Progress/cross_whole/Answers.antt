@@ -6,9 +6,10 @@ use Rattle.book.specs.Lists.{joined}
 use Rattle.book.proofs.Layers.{length_joined}
 use Rattle.cross.specs.Crossing.{clearing_fills}
 use Rattle.cross.proofs.Allotting.{first_records, records_fit}
-use Rattle.auction.specs.Auctions.{auction_at, collar_high, collar_low, in_shut, twice}
+use Rattle.auction.specs.Auctions.{auction_at, collar_high, collar_low, twice}
 use Rattle.auction.specs.Rows.{accepted, accepted_short}
 use Rattle.auction.specs.Settling.{WithinShares, settled, settled_by}
+use Rattle.auction.specs.Stages.{in_shut}
 use Rattle.auction.proofs.CrossOutcome.{list_is, outcome_is}
 use Rattle.auction.proofs.Settlements.{records_within, settled_of_records}
 use Rattle.auction.proofs.stage.Progress.cross_whole.Goals as goal
