@@ -8,8 +8,6 @@ pub data Stage : Type 0 where
   in_locked : Stage
   in_shut : Stage
   in_crossed : Stage
-  -- none of them: a runner's slot while a call has the stage
-  in_none : Stage
 
 -- something that the first three stages have or lack
 abbrev by_stage : (in_open in_locked in_shut : Bool) → Stage → Bool
@@ -17,7 +15,6 @@ by_stage o l s in_open = o
 by_stage o l s in_locked = l
 by_stage o l s in_shut = s
 by_stage o l s in_crossed = false
-by_stage o l s in_none = false
 
 -- the stages in which orders come, the quote can be replaced, and the figures can be published
 abbrev pub takes_orders : Stage → Bool
@@ -49,4 +46,3 @@ entry_end in_open = lock_time
 entry_end in_locked = shut_time
 entry_end in_shut = lock_time
 entry_end in_crossed = lock_time
-entry_end in_none = lock_time
