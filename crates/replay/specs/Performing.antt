@@ -30,7 +30,10 @@ pub data Reply : Type 0 where
   crosses : Outcome → Reply
 
 -- what the program's own answers say
-abbrev pub reply : Result Effect Refusal → Reply
+abbrev pub Answer : Type 0
+Answer = Result Effect Refusal
+
+abbrev pub reply : Answer → Reply
 reply (Err e) = refuses (cause e)
 reply (Ok (Entered n)) = enters n
 reply (Ok (Cancelled n)) = cancels n

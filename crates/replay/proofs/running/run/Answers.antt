@@ -1,15 +1,13 @@
 -- One call more, and at the end all of them.
 use Rattle.std.proofs.Common.{◌≡◌, ℕ, ◌+◌, ◌<◌, List, [], ◌∷◌, ◌++◌, map, length, take, drop, set, Result, ap, ◌∙◌, arith}
 use Rattle.std.proofs.lemmas.List.{drop-set-lt, map_push, take_more_set}
-use Rattle.market.specs.declared.refusal.Refusal.{Refusal}
-use Rattle.replay.specs.declared.answer.Effect.{Effect}
-use Rattle.replay.specs.Performing.{Reply, State, held_auction, reply}
+use Rattle.replay.specs.Performing.{Answer, Reply, State, held_auction, reply}
 use Rattle.replay.specs.Runs.{answers, asked}
 use Rattle.replay.proofs.Folding.{after_more, answers_more}
 use Rattle.replay.proofs.running.run.Goals as goal
 
 -- one answer more at its place
-answered_more : (xs : List (Result Effect Refusal)) (i : ℕ) (v : Result Effect Refusal) → i < length xs → map reply (take (i + 1) (set xs i v)) ≡ map reply (take i xs) ++ reply v ∷ []
+answered_more : (xs : List Answer) (i : ℕ) (v : Answer) → i < length xs → map reply (take (i + 1) (set xs i v)) ≡ map reply (take i xs) ++ reply v ∷ []
 answered_more xs i v h = ap (map reply) (take_more_set xs i v h) ∙ map_push reply (take i xs) v
 
 pub loop-place-preserved : goal.loop-place-preserved

@@ -4,9 +4,8 @@ use Rattle.std.proofs.lemmas.List.{length-map, with_items_is, take_all}
 use Rattle.session.specs.Records.{events_in}
 use Rattle.session.specs.declared.resting.FiledBook.{FiledBook}
 use Rattle.market.specs.Calls.{Timed}
-use Rattle.replay.specs.declared.answer.Answer.{Answer}
 use Rattle.replay.specs.declared.step.Step.{Step}
-use Rattle.replay.specs.Performing.{reply}
+use Rattle.replay.specs.Performing.{Answer, reply}
 use Rattle.replay.specs.Replaying.{Fails}
 use Rattle.replay.specs.Runs.{Asked, after, answers, asked, first_state}
 use Rattle.run_report.specs.Sessions.{asked_with, filed_orders, ranking_of}
