@@ -1,6 +1,5 @@
 pub mod CrossOutcome
 pub mod FigureSums
-pub mod FindOrder
 pub mod RefusalNumbers
 pub mod Settlements
 pub mod SettlingSteps

@@ -35,12 +35,9 @@ impl AuctionBook {
         ensures value { result ≡ place_of (accepted self.now) entry_number }
         ensures within { IfSome result (λ i. i < length (accepted self.now)) }
     {
-        for (i, row) in self.rows.iter().enumerate() {
-            if row.entry == entry_number {
-                return Some(i);
-            }
-        }
-        None
+        self.rows
+            .iter()
+            .position(|row| row.entry == entry_number)
     }
 
     fn cut(&mut self, place: usize, by: u32)
