@@ -61,7 +61,7 @@ impl Progress {
             list,
         )?;
         let records = whole.count();
-        let settlement = Settlement::of_first(book, list, records);
+        let settlement = Settlement::of(book, &list[..records]);
         Ok(answered(crossing, settlement, records))
     }
 }

@@ -23,10 +23,7 @@ pub fn start(book: &mut AuctionBook, last_sale: u32) -> Result<Open, Refusal>
         last_sale,
         last_time: 0,
         last_entry: 0,
-        quote: Quote {
-            bid: None,
-            offer: None,
-        },
+        quote: Quote::default(),
     };
     Ok(Auction {
         progress,
