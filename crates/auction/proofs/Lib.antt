@@ -1,7 +1,4 @@
 pub mod CrossOutcome
 pub mod FigureSums
-pub mod FindOrder
 pub mod RefusalNumbers
 pub mod Settlements
-pub mod SettlingSteps
-pub mod SoundRows

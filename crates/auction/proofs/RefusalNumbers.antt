@@ -1,6 +1,6 @@
 -- Every refusal has a number above 0, so that a cause by number 0 is none.
-use Rattle.std.proofs.Common.{◌≡◌, ℕ, Bool, true, false, cond, sym, ap, ◌∙◌, arith}
-use Rattle.market.specs.Causes.{Cause, cause}
+use Rattle.std.proofs.Common.{◌≡◌, arith}
+use Rattle.market.specs.Causes.{cause}
 use Rattle.market.specs.declared.refusal.Refusal.{Refusal}
 use Rattle.market.specs.declared.refusal.Refusal.TheVariants.{
   FileSize,
@@ -18,7 +18,6 @@ use Rattle.market.specs.declared.refusal.Refusal.TheVariants.{
   AllotmentShort,
   NotInStage,
 }
-use Rattle.auction.specs.Refusing.{refusal}
 
 pub above_none : (e : Refusal) → (cause e).number ≡ 0 → ⊥
 above_none FileSize h = omega arith
@@ -35,14 +34,3 @@ above_none BookFull h = omega arith
 above_none NoSuchOrder h = omega arith
 above_none AllotmentShort h = omega arith
 above_none NotInStage h = omega arith
-
--- refused for its time, a call is refused so whatever causes come behind
-pub for_its_time : (e : Refusal) (below outside : Bool) (n : ℕ) → cause e ≡ refusal (cond below 6 (cond outside 7 0)) → cause e ≡ refusal (cond below 6 (cond outside 7 n))
-for_its_time e true outside n h = h
-for_its_time e false true n h = h
-for_its_time e false false n h = absurd (above_none e (ap (λ (c : Cause). c.number) h))
-
--- in time and with room, a cross is not refused
-pub no_cause_to_cross : (below outside short : Bool) → refusal 0 ≡ refusal (cond below 6 (cond outside 7 0)) → short ≡ false
-    → refusal 0 ≡ refusal (cond below 6 (cond outside 7 (cond short 12 0)))
-no_cause_to_cross below outside short h e = h ∙ sym (ap (λ b. refusal (cond below 6 (cond outside 7 (cond b 12 0)))) e)

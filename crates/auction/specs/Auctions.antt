@@ -5,19 +5,13 @@ use Rattle.market.specs.Ranges.{cents_of, collar_highest, collar_lowest, referen
 use Rattle.book.specs.Lists.{joined}
 use Rattle.auction.specs.declared.auction_book.AuctionBook.{AuctionBook}
 use Rattle.auction.specs.declared.stage.Progress.{Progress}
-use Rattle.auction.specs.declared.stage.Open.{Open}
-use Rattle.auction.specs.declared.stage.Locked.{Locked}
-use Rattle.auction.specs.declared.stage.Shut.{Shut}
-use Rattle.auction.specs.declared.stage.Crossed.{Crossed}
+use Rattle.auction.specs.declared.stage.Auction.{Auction as Staged}
+use Rattle.auction.specs.declared.stage.naming.OpenStage.{OpenStage}
+use Rattle.auction.specs.declared.stage.naming.LockedStage.{LockedStage}
+use Rattle.auction.specs.declared.stage.naming.ShutStage.{ShutStage}
+use Rattle.auction.specs.declared.stage.naming.CrossedStage.{CrossedStage}
+use Rattle.auction.specs.Stages.{Stage, in_crossed, in_locked, in_open, in_shut}
 use Rattle.auction.specs.Rows.{accepted}
-
-pub data Stage : Type 0 where
-  in_open : Stage
-  in_locked : Stage
-  in_shut : Stage
-  in_crossed : Stage
-  -- none of them: a runner's slot while a call has the stage
-  in_none : Stage
 
 pub record Auction : Type 0 where
   pub stage : Stage
@@ -68,14 +62,17 @@ auction_at s p os = record {
   orders = os;
 }
 
-abbrev pub open_auction : Open → AuctionBook → Auction
-open_auction s b = auction_at in_open s.progress (accepted b)
+abbrev pub auction_of : {S : Type 0} → Stage → Staged S → AuctionBook → Auction
+auction_of stage s b = auction_at stage s.progress (accepted b)
 
-abbrev pub locked_auction : Locked → AuctionBook → Auction
-locked_auction s b = auction_at in_locked s.progress (accepted b)
+abbrev pub open_auction : Staged OpenStage → AuctionBook → Auction
+open_auction = auction_of in_open
 
-abbrev pub shut_auction : Shut → AuctionBook → Auction
-shut_auction s b = auction_at in_shut s.progress (accepted b)
+abbrev pub locked_auction : Staged LockedStage → AuctionBook → Auction
+locked_auction = auction_of in_locked
 
-abbrev pub crossed_auction : Crossed → AuctionBook → Auction
-crossed_auction s b = auction_at in_crossed s.progress (accepted b)
+abbrev pub shut_auction : Staged ShutStage → AuctionBook → Auction
+shut_auction = auction_of in_shut
+
+abbrev pub crossed_auction : Staged CrossedStage → AuctionBook → Auction
+crossed_auction = auction_of in_crossed

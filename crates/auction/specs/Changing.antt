@@ -1,7 +1,8 @@
 -- What an accepted call leaves of an auction.
 use Rattle.std.specs.Prelude.{ℕ, List, [], ◌∷◌, ◌++◌, Some, None, Option}
 use Rattle.market.specs.declared.order.OrderTerms.{OrderTerms}
-use Rattle.auction.specs.Auctions.{Stage, in_crossed, Auction}
+use Rattle.auction.specs.Stages.{Stage, in_crossed}
+use Rattle.auction.specs.Auctions.{Auction}
 use Rattle.auction.specs.Rows.{left_at, place_of, taken_at}
 
 -- at a stage and a time, otherwise as it was

@@ -6,3 +6,4 @@ pub mod Refusing
 pub mod Rows
 pub mod Schedule
 pub mod Settling
+pub mod Stages

@@ -9,18 +9,8 @@ use Rattle.market.specs.declared.order.Side.{Side}
 use Rattle.market.specs.declared.order.Side.TheVariants.{Buy, Sell}
 use Rattle.market.specs.declared.order.OrderTerms.{OrderTerms}
 use Rattle.market.specs.declared.refusal.Refusal.{Refusal}
-use Rattle.auction.specs.Auctions.{
-  Stage,
-  in_open,
-  in_locked,
-  in_shut,
-  in_crossed,
-  in_none,
-  Auction,
-  collar_high,
-  collar_low,
-  whole,
-}
+use Rattle.auction.specs.Stages.{Stage, entry_end, has_call, in_collar}
+use Rattle.auction.specs.Auctions.{Auction, collar_high, collar_low, whole}
 use Rattle.auction.specs.Rows.{most_accepted, place_of}
 use Rattle.auction.specs.Schedule.{cross_time, day_end, lock_time, shut_time}
 
@@ -41,32 +31,6 @@ verdict (Err e) = cause e
 abbrev pub verdict_back : {X Y : Type 0} → Result X (Y × Refusal) → Cause
 verdict_back (Ok x) = refusal 0
 verdict_back (Err e) = cause e.1
-
--- something that the first three stages have or lack
-abbrev by_stage : (in_open in_locked in_shut : Bool) → Stage → Bool
-by_stage o l s in_open = o
-by_stage o l s in_locked = l
-by_stage o l s in_shut = s
-by_stage o l s in_crossed = false
-by_stage o l s in_none = false
-
--- which calls each stage has
-abbrev pub has_call : Call → Stage → Bool
-has_call (enter o) = by_stage true true false
-has_call (cancel e n) = by_stage true false false
-has_call (quote b o) = by_stage true true true
-has_call publish = by_stage false true true
-has_call lock = by_stage true false false
-has_call shut = by_stage false true false
-has_call cross = by_stage false false true
-
--- orders come until the lock time, and into a locked auction until the shut time; the other stages have no enter
-abbrev entry_end : Stage → ℕ
-entry_end in_open = lock_time
-entry_end in_locked = shut_time
-entry_end in_shut = lock_time
-entry_end in_crossed = lock_time
-entry_end in_none = lock_time
 
 -- from when, and before when, a call may come
 abbrev pub call_from : Call → ℕ
@@ -114,7 +78,7 @@ module _ (a : Auction) where
       -- the entry number is not above the last accepted
       (8, nat_le o.entry a.last_entry)
       -- a locked auction takes orders within the collar
-      ∷ (9, by_stage false true false a.stage && beyond (collar_low a) (collar_high a) o.side o.price)
+      ∷ (9, in_collar a.stage && beyond (collar_low a) (collar_high a) o.side o.price)
       -- the auction book is full
       ∷ (10, nat_le most_accepted (length a.orders))
       ∷ []

@@ -1,5 +1,5 @@
 -- What the auction book holds, and what a cancel leaves of it.
-use Rattle.std.specs.Prelude.{ℕ, ◌+◌, ◌-◌, ◌≤◌, min, cond, List, [], ◌∷◌, length, Some, None, vec_items, Option, ◌==◌, nat_le, slice_set}
+use Rattle.std.specs.Prelude.{ℕ, ◌-◌, ◌≤◌, min, cond, List, length, vec_items, Option, position, ◌==◌, nat_le, slice_set}
 use Rattle.std.proofs.Common.{arith}
 use Rattle.std.specs.List.{remove}
 use Rattle.market.specs.declared.order.OrderTerms.{OrderTerms}
@@ -17,13 +17,9 @@ most_accepted = 256
 pub accepted_short : (b : AuctionBook) → length (accepted b) ≤ 4096
 accepted_short b = omega (arith, b.few, b.rows.ok.0)
 
--- the place of the first order with an entry number, counted from k
-abbrev pub place_from : List OrderTerms → (entry k : ℕ) → Option ℕ
-place_from [] e k = None
-place_from (o ∷ os) e k = cond (o.entry == e) (Some k) (place_from os e (k + 1))
-
+-- the place of the first order with an entry number
 abbrev pub place_of : List OrderTerms → (entry : ℕ) → Option ℕ
-place_of os e = place_from os e 0
+place_of os e = position (λ o. o.entry == e) os
 
 -- the order with fewer shares
 abbrev pub lowered : OrderTerms → (by : ℕ) → OrderTerms

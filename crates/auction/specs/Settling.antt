@@ -1,5 +1,5 @@
 -- What a cross leaves of the auction book's shares.
-use Rattle.std.specs.Prelude.{ℕ, ◌-◌, ◌<◌, ◌≤◌, cond, List, length, sum_by, nat_lt}
+use Rattle.std.specs.Prelude.{ℕ, ◌+◌, ◌-◌, ◌*◌, ◌<◌, ◌≤◌, cond, List, length, sum_by, nat_lt}
 use Rattle.market.specs.declared.order.OrderTerms.{OrderTerms}
 use Rattle.cross.specs.declared.allotment.Allotment.{Allotment}
 use Rattle.cross.specs.Fills.{at_place, places}
@@ -32,6 +32,18 @@ module _ (os : List OrderTerms) where
     released = sum_by (if_here releases) rs;
   }
 
+  -- with one record more
+  abbrev pub counted : Settlement → Allotment → Settlement
+  counted s r = record {
+    filled = s.filled + if_here (λ i n. n) r;
+    ended = s.ended + if_here ends r;
+    released = s.released + if_here releases r;
+  }
+
   -- no fill is above its order's shares
   abbrev pub WithinShares : Allotment → Type 0
   WithinShares r = r.place < length os → r.fill ≤ (at_place os r.place).shares
+
+-- sums of so many records at the most
+abbrev pub Small : (records : ℕ) → Settlement → Type 0
+Small n s = (s.filled ≤ 1000000 * n) × (s.ended ≤ 1000000 * n) × (s.released ≤ 1000000 * n)

@@ -3,7 +3,7 @@
 mod counting;
 
 /// The filled shares of the auction book, and the unfilled ones that ended and that were released.
-#[derive(Clone, Copy)]
+#[derive(Clone, Copy, Default)]
 pub(crate) struct Settlement {
     pub(crate) filled: u32,
     pub(crate) ended: u32,

@@ -1,19 +1,25 @@
-//! The stages of an auction, each a type of its own. Only a start makes the first, a stage becomes the next by a call that
-//! takes it, and none can be copied. The auction book is lent at each call.
+//! An auction at one of its stages. Only a start makes the first, a stage becomes the next by a call that takes it, and none
+//! can be copied. A stage has the calls that its traits give it. The auction book is lent at each call.
 
 use market::price::Price;
 use market::quote::Quote;
+use std::marker::PhantomData;
 
 mod changing;
 mod crossing;
 mod entering;
 mod locked_calls;
+mod naming;
 mod open_calls;
 mod publishing;
+mod quoting;
 mod shut_calls;
 mod starting;
 mod timing;
 
+pub use naming::{
+    AtStage, CrossedStage, LockedStage, OpenStage, Publishes, ShutStage, TakesOrders, TakesQuotes,
+};
 pub use starting::start;
 
 /// How far an auction has come.
@@ -27,26 +33,21 @@ struct Progress {
     quote: Quote,
 }
 
-/// Orders come and go.
+/// An auction at a stage.
 #[derive(Drop)]
-pub struct Open {
+pub struct Auction<S> {
     progress: Progress,
+    stage: PhantomData<S>,
 }
+
+/// Orders come and go.
+pub type Open = Auction<OpenStage>;
 
 /// Orders come within the collar, and none goes.
-#[derive(Drop)]
-pub struct Locked {
-    progress: Progress,
-}
+pub type Locked = Auction<LockedStage>;
 
 /// No order comes or goes.
-#[derive(Drop)]
-pub struct Shut {
-    progress: Progress,
-}
+pub type Shut = Auction<ShutStage>;
 
 /// The auction is over.
-#[derive(Drop)]
-pub struct Crossed {
-    progress: Progress,
-}
+pub type Crossed = Auction<CrossedStage>;

@@ -3,4 +3,4 @@ pub mod Bounds
 pub mod Deliveries
 pub mod Folding
 pub mod Replays
-pub mod PuttingBack
+pub mod HeldCalls

@@ -1,32 +1,27 @@
 -- What a run answered and left, with what is promised of it.
-use Rattle.std.proofs.Common.{◌≡◌, ℕ, Bool, true, false, cond, not, leb, List, [], ◌∷◌, map, length, take, sym, refl, ap, ◌∙◌, subst, arith}
+use Rattle.std.proofs.Common.{◌≡◌, ℕ, Bool, true, leb, List, [], ◌∷◌, map, length, take, sym, refl, ap, ◌∙◌, subst, arith}
 use Rattle.std.proofs.lemmas.List.{take_all}
 use Rattle.std.proofs.lemmas.Bool.{and_parts, leb-true}
-use Rattle.market.specs.Causes.{Cause, cause}
 use Rattle.market.specs.Prices.{highest_price, lawful_price, lowest_price}
 use Rattle.market.specs.declared.order.OrderTerms.{OrderTerms}
-use Rattle.market.specs.declared.refusal.Refusal.{Refusal}
 use Rattle.cross.specs.Rankings.{Laws}
 use Rattle.cross.specs.declared.allotment.Allotment.{Allotment}
 use Rattle.auction.specs.declared.auction_book.AuctionBook.{AuctionBook}
 use Rattle.replay.specs.declared.held.Held.{Held}
-use Rattle.replay.specs.declared.held.Held.TheVariants.{Empty, Open, Locked, Shut, Crossed}
+use Rattle.replay.specs.declared.held.Held.TheVariants.{Open, Locked, Shut, Crossed}
 use Rattle.replay.specs.declared.step.Step.{Step}
 use Rattle.replay.specs.Account.{Balanced}
 use Rattle.auction.specs.Auctions.{Auction, started}
 use Rattle.replay.specs.Performing.{State, Reply, held_auction}
-use Rattle.auction.specs.Refusing.{refusal}
 use Rattle.replay.specs.Replaying.{Ran}
 use Rattle.auction.specs.Rows.{accepted}
 use Rattle.replay.specs.Runs.{Asked, after, answers, asked, first_state}
 use Rattle.replay.proofs.Accounts.{AllPriced, account}
 use Rattle.replay.proofs.Bounds.{event_priced, started_bounded}
 use Rattle.replay.proofs.Deliveries.{every_call_kept}
-use Rattle.auction.proofs.RefusalNumbers.{above_none}
 
 -- whatever the stage, the orders are those of the book
 pub held_orders : (h : Held) (b : AuctionBook) → (held_auction h b).orders ≡ accepted b
-held_orders Empty b = refl
 held_orders (Open s) b = refl
 held_orders (Locked s) b = refl
 held_orders (Shut s) b = refl
@@ -35,15 +30,6 @@ held_orders (Crossed s) b = refl
 steps_priced : {F : Type 0} (orders : F → List OrderTerms) (ss : List (Step F)) → AllPriced (map (asked orders) ss)
 steps_priced orders [] = tt
 steps_priced orders (s ∷ ss) = (event_priced s.event, steps_priced orders ss)
-
--- a start is refused just where the last sale is no price
-pub not_refused : (b : Bool) → refusal 0 ≡ refusal (cond (not b) 5 0) → b ≡ true
-not_refused true h = refl
-not_refused false h = absurd (omega (arith, ap (λ (c : Cause). c.number) h))
-
-pub refused_sale : (b : Bool) (e : Refusal) → cause e ≡ refusal (cond (not b) 5 0) → (cause e ≡ refusal 5) × (b ≡ false)
-refused_sale true e h = absurd (above_none e (ap (λ (c : Cause). c.number) h))
-refused_sale false e h = (h, refl)
 
 module _ {F : Type 0} (orders : F → List OrderTerms) (good : OrderTerms → OrderTerms → Bool) (laws : Laws good) (l : ℕ) (before : List Allotment) (ss : List (Step F)) where
   abbrev all : List Asked

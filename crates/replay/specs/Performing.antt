@@ -1,22 +1,23 @@
 -- What a call does to an auction and the allotment list that is lent to it, and how it is answered.
-use Rattle.std.specs.Prelude.{◌≡◌, ℕ, Bool, cond, List, length, ◌==◌}
+use Rattle.std.specs.Prelude.{◌≡◌, ℕ, Bool, cond, List, length, Ok, Err, Result, ◌==◌}
 use Rattle.market.specs.Calls.{Call, enter, cancel, quote, publish, lock, shut, cross}
 use Rattle.market.specs.Causes.{Cause, cause}
 use Rattle.market.specs.declared.order.OrderTerms.{OrderTerms}
 use Rattle.cross.specs.declared.allotment.Allotment.{Allotment}
-use Rattle.replay.specs.declared.answer.Answer.{Answer}
-use Rattle.replay.specs.declared.answer.Answer.TheVariants.{Refused, Entered, Cancelled, Quoted, Published, Moved, Crossed}
+use Rattle.market.specs.declared.refusal.Refusal.{Refusal}
+use Rattle.replay.specs.declared.answer.Effect.{Effect}
+use Rattle.replay.specs.declared.answer.Effect.TheVariants.{Entered, Cancelled, Quoted, Published, Moved, Crossed}
 use Rattle.auction.specs.declared.answer.Figures.{Figures}
 use Rattle.auction.specs.declared.answer.Outcome.{Outcome}
 use Rattle.auction.specs.declared.auction_book.AuctionBook.{AuctionBook}
 use Rattle.replay.specs.declared.held.Held.{Held}
 use Rattle.replay.specs.declared.held.Held.TheVariants as held
-use Rattle.auction.specs.Auctions.{Auction, Stage, crossed_auction, in_crossed, in_locked, in_none, in_open, in_shut, locked_auction, open_auction, shut_auction}
+use Rattle.auction.specs.Auctions.{Auction, crossed_auction, locked_auction, open_auction, shut_auction}
 use Rattle.auction.specs.Changing.{cancelled, crossed, entered, moved, quoted, withdrawn}
 use Rattle.auction.specs.Outcomes.{list_after, outcome}
 use Rattle.auction.specs.Publishing.{published}
 use Rattle.auction.specs.Refusing.{first_cause, refusal}
-use Rattle.auction.specs.Rows.{accepted}
+use Rattle.auction.specs.Stages.{in_locked, in_shut}
 
 -- an answer, with a refusal by its number, layer and byte
 pub data Reply : Type 0 where
@@ -29,14 +30,17 @@ pub data Reply : Type 0 where
   crosses : Outcome → Reply
 
 -- what the program's own answers say
+abbrev pub Answer : Type 0
+Answer = Result Effect Refusal
+
 abbrev pub reply : Answer → Reply
-reply (Refused e) = refuses (cause e)
-reply (Entered n) = enters n
-reply (Cancelled n) = cancels n
-reply Quoted = quotes
-reply (Published f) = publishes f
-reply Moved = moves
-reply (Crossed o) = crosses o
+reply (Err e) = refuses (cause e)
+reply (Ok (Entered n)) = enters n
+reply (Ok (Cancelled n)) = cancels n
+reply (Ok Quoted) = quotes
+reply (Ok (Published f)) = publishes f
+reply (Ok Moved) = moves
+reply (Ok (Crossed o)) = crosses o
 
 -- an auction, and the allotment list that is lent to it: what calls may write
 pub record State : Type 0 where
@@ -98,25 +102,8 @@ DoesWith filed a t c b s =
 abbrev pub Does : (before : Auction) → (time : ℕ) → Call → (after : Auction) → Reply → Type 0
 Does a t c b s = (filed : List OrderTerms) → DoesWith filed a t c b s
 
--- the stage of the auction that a runner holds
-abbrev pub held_stage : Held → Stage
-held_stage held.Empty = in_none
-held_stage (held.Open s) = in_open
-held_stage (held.Locked s) = in_locked
-held_stage (held.Shut s) = in_shut
-held_stage (held.Crossed s) = in_crossed
-
 -- the auction that a runner holds, with the book that is lent to it
 abbrev pub held_auction : Held → AuctionBook → Auction
-held_auction held.Empty b = record {
-  stage = in_none;
-  last_sale = 0;
-  last_time = 0;
-  last_entry = 0;
-  bid = 0;
-  offer = 0;
-  orders = accepted b;
-}
 held_auction (held.Open s) b = open_auction s b
 held_auction (held.Locked s) b = locked_auction s b
 held_auction (held.Shut s) b = shut_auction s b

@@ -3,11 +3,9 @@
 use auction::answer::{Figures, Outcome};
 use market::refusal::Refusal;
 
-/// How a call was answered.
+/// What an accepted call did.
 #[derive(Clone, Copy)]
-pub enum Answer {
-    /// Nothing has changed.
-    Refused(Refusal),
+pub enum Effect {
     /// The shares entered.
     Entered(u32),
     /// The shares taken off an order.
@@ -18,3 +16,6 @@ pub enum Answer {
     Moved,
     Crossed(Outcome),
 }
+
+/// How a call was answered; refused, it has changed nothing.
+pub type Answer = Result<Effect, Refusal>;

@@ -2,10 +2,13 @@
 
 use auction::stage::{Crossed, Locked, Open, Shut};
 
-/// An auction at one of its stages; empty while a call has it.
+mod holding;
+
+pub(crate) use holding::Holds;
+
+/// An auction at one of its stages.
 #[derive(Drop)]
 pub(crate) enum Held {
-    Empty,
     Open(Open),
     Locked(Locked),
     Shut(Shut),

@@ -1,173 +1,99 @@
-//! The calls on the auction that is held, each with its answer.
+//! The calls on an auction, each with its answer.
 
 ghost use Rattle.std.specs.Prelude.{◌≡◌};
 ghost use Rattle.market.specs.Calls.{cancel, cross, enter, lock, publish, quote, shut};
 ghost use Rattle.market.specs.Ranges.{cents_of};
-ghost use Rattle.auction.specs.Auctions.{locked_auction, open_auction, shut_auction};
+ghost use Rattle.auction.specs.Auctions.{auction_of, locked_auction, open_auction, shut_auction};
 ghost use Rattle.replay.specs.Performing.{Does, DoesWith, held_auction, performed, reply};
 
-use crate::answer::Answer;
-use crate::held::Held;
+use crate::answer::{Answer, Effect};
+use crate::held::{Held, Holds};
 use auction::auction_book::AuctionBook;
-use auction::stage::{Locked, Open, Shut};
+use auction::stage::{Auction, Locked, Open, Publishes, Shut, TakesOrders, TakesQuotes};
 use book::Book;
 use cross::allotment::Allotment;
 use cross::ranking::Ranking;
 use market::order::Order;
 use market::quote::Quote;
 
-pub(crate) fn enter_open(
-    stage: Open,
+pub(crate) fn enter_order<S: TakesOrders + Holds>(
+    mut auction: Auction<S>,
     book: &mut AuctionBook,
     time: u32,
     order: Order,
 ) -> (Held, Answer)
-    ensures { Does (open_auction stage book.old) time (enter order.terms) (held_auction result.0 book.new) (reply result.1) }
+    ensures { Does (auction_of S.stage auction book.old) time (enter order.terms) (held_auction result.0 book.new) (reply result.1) }
 {
-    let mut stage = stage;
-    match stage.enter(book, time, order) {
-        Ok(shares) => (Held::Open(stage), Answer::Entered(shares)),
-        Err(refusal) => (Held::Open(stage), Answer::Refused(refusal)),
-    }
+    let answer = auction.enter(book, time, order).map(Effect::Entered);
+    (S::hold(auction), answer)
 }
 
-pub(crate) fn enter_locked(
-    stage: Locked,
-    book: &mut AuctionBook,
-    time: u32,
-    order: Order,
-) -> (Held, Answer)
-    ensures { Does (locked_auction stage book.old) time (enter order.terms) (held_auction result.0 book.new) (reply result.1) }
-{
-    let mut stage = stage;
-    match stage.enter(book, time, order) {
-        Ok(shares) => (Held::Locked(stage), Answer::Entered(shares)),
-        Err(refusal) => (Held::Locked(stage), Answer::Refused(refusal)),
-    }
-}
-
-pub(crate) fn cancel_open(
-    stage: Open,
+pub(crate) fn cancel_shares(
+    mut auction: Open,
     book: &mut AuctionBook,
     time: u32,
     entry_number: u16,
     shares: u32,
 ) -> (Held, Answer)
-    ensures { Does (open_auction stage book.old) time (cancel entry_number shares) (held_auction result.0 book.new) (reply result.1) }
+    ensures { Does (open_auction auction book.old) time (cancel entry_number shares) (held_auction result.0 book.new) (reply result.1) }
 {
-    let mut stage = stage;
-    match stage.cancel(book, time, entry_number, shares) {
-        Ok(taken) => (Held::Open(stage), Answer::Cancelled(taken)),
-        Err(refusal) => (Held::Open(stage), Answer::Refused(refusal)),
-    }
+    let answer = auction.cancel(book, time, entry_number, shares);
+    (Held::Open(auction), answer.map(Effect::Cancelled))
 }
 
-pub(crate) fn quote_open(stage: Open, book: &AuctionBook, time: u32, new: Quote) -> (Held, Answer)
-    ensures { Does (open_auction stage book.now) time (quote (cents_of new.bid) (cents_of new.offer)) (held_auction result.0 book.now) (reply result.1) }
-{
-    let mut stage = stage;
-    match stage.quote(book, time, new) {
-        Ok(()) => (Held::Open(stage), Answer::Quoted),
-        Err(refusal) => (Held::Open(stage), Answer::Refused(refusal)),
-    }
-}
-
-pub(crate) fn quote_locked(
-    stage: Locked,
+pub(crate) fn set_quote<S: TakesQuotes + Holds>(
+    mut auction: Auction<S>,
     book: &AuctionBook,
     time: u32,
     new: Quote,
 ) -> (Held, Answer)
-    ensures { Does (locked_auction stage book.now) time (quote (cents_of new.bid) (cents_of new.offer)) (held_auction result.0 book.now) (reply result.1) }
+    ensures { Does (auction_of S.stage auction book.now) time (quote (cents_of new.bid) (cents_of new.offer)) (held_auction result.0 book.now) (reply result.1) }
 {
-    let mut stage = stage;
-    match stage.quote(book, time, new) {
-        Ok(()) => (Held::Locked(stage), Answer::Quoted),
-        Err(refusal) => (Held::Locked(stage), Answer::Refused(refusal)),
-    }
+    let answer = auction.quote(book, time, new).map(|()| Effect::Quoted);
+    (S::hold(auction), answer)
 }
 
-pub(crate) fn quote_shut(stage: Shut, book: &AuctionBook, time: u32, new: Quote) -> (Held, Answer)
-    ensures { Does (shut_auction stage book.now) time (quote (cents_of new.bid) (cents_of new.offer)) (held_auction result.0 book.now) (reply result.1) }
-{
-    let mut stage = stage;
-    match stage.quote(book, time, new) {
-        Ok(()) => (Held::Shut(stage), Answer::Quoted),
-        Err(refusal) => (Held::Shut(stage), Answer::Refused(refusal)),
-    }
-}
-
-pub(crate) fn publish_locked<F: Book>(
-    stage: Locked,
+pub(crate) fn publish_figures<S: Publishes + Holds, F: Book>(
+    mut auction: Auction<S>,
     book: &AuctionBook,
     time: u32,
     filed: &F,
 ) -> (Held, Answer)
-    ensures { DoesWith (F.Book.orders filed.now) (locked_auction stage book.now) time publish (held_auction result.0 book.now) (reply result.1) }
+    ensures { DoesWith (F.Book.orders filed.now) (auction_of S.stage auction book.now) time publish (held_auction result.0 book.now) (reply result.1) }
 {
-    let mut stage = stage;
-    match stage.publish(book, time, filed) {
-        Ok(figures) => (Held::Locked(stage), Answer::Published(figures)),
-        Err(refusal) => (Held::Locked(stage), Answer::Refused(refusal)),
+    let answer = auction.publish(book, time, filed).map(Effect::Published);
+    (S::hold(auction), answer)
+}
+
+pub(crate) fn lock_open(auction: Open, book: &AuctionBook, time: u32) -> (Held, Answer)
+    ensures { Does (open_auction auction book.now) time lock (held_auction result.0 book.now) (reply result.1) }
+{
+    match auction.lock(book, time) {
+        Ok(locked) => (Held::Locked(locked), Ok(Effect::Moved)),
+        Err((auction, refusal)) => (Held::Open(auction), Err(refusal)),
     }
 }
 
-pub(crate) fn publish_shut<F: Book>(
-    stage: Shut,
-    book: &AuctionBook,
-    time: u32,
-    filed: &F,
-) -> (Held, Answer)
-    ensures { DoesWith (F.Book.orders filed.now) (shut_auction stage book.now) time publish (held_auction result.0 book.now) (reply result.1) }
+pub(crate) fn shut_locked(auction: Locked, book: &AuctionBook, time: u32) -> (Held, Answer)
+    ensures { Does (locked_auction auction book.now) time shut (held_auction result.0 book.now) (reply result.1) }
 {
-    let mut stage = stage;
-    match stage.publish(book, time, filed) {
-        Ok(figures) => (Held::Shut(stage), Answer::Published(figures)),
-        Err(refusal) => (Held::Shut(stage), Answer::Refused(refusal)),
-    }
-}
-
-pub(crate) fn lock_open(stage: Open, book: &AuctionBook, time: u32) -> (Held, Answer)
-    ensures { Does (open_auction stage book.now) time lock (held_auction result.0 book.now) (reply result.1) }
-{
-    match stage.lock(book, time) {
-        Ok(stage) => (Held::Locked(stage), Answer::Moved),
-        Err(back) => {
-            let (stage, refusal) = back;
-            (Held::Open(stage), Answer::Refused(refusal))
-        }
-    }
-}
-
-pub(crate) fn shut_locked(stage: Locked, book: &AuctionBook, time: u32) -> (Held, Answer)
-    ensures { Does (locked_auction stage book.now) time shut (held_auction result.0 book.now) (reply result.1) }
-{
-    match stage.shut(book, time) {
-        Ok(stage) => (Held::Shut(stage), Answer::Moved),
-        Err(back) => {
-            let (stage, refusal) = back;
-            (Held::Locked(stage), Answer::Refused(refusal))
-        }
+    match auction.shut(book, time) {
+        Ok(shut) => (Held::Shut(shut), Ok(Effect::Moved)),
+        Err((auction, refusal)) => (Held::Locked(auction), Err(refusal)),
     }
 }
 
 pub(crate) fn cross_shut<F: Book, R: Ranking>(
-    stage: Shut,
+    auction: Shut,
     book: &mut AuctionBook,
     time: u32,
     filed: &F,
     list: &mut [Allotment],
 ) -> (Held, Answer)
-    ensures { record { next = record { auction = held_auction result.0 book.new; list = list.new }; answer = reply result.1 } ≡ performed R.Ranking.good (record { auction = shut_auction stage book.old; list = list.old }) (F.Book.orders filed.now) time cross }
+    ensures { record { next = record { auction = held_auction result.0 book.new; list = list.new }; answer = reply result.1 } ≡ performed R.Ranking.good (record { auction = shut_auction auction book.old; list = list.old }) (F.Book.orders filed.now) time cross }
 {
-    match stage.cross::<F, R>(book, time, filed, list) {
-        Ok(done) => {
-            let (stage, outcome) = done;
-            (Held::Crossed(stage), Answer::Crossed(outcome))
-        }
-        Err(back) => {
-            let (stage, refusal) = back;
-            (Held::Shut(stage), Answer::Refused(refusal))
-        }
+    match auction.cross::<F, R>(book, time, filed, list) {
+        Ok((crossed, outcome)) => (Held::Crossed(crossed), Ok(Effect::Crossed(outcome))),
+        Err((auction, refusal)) => (Held::Shut(auction), Err(refusal)),
     }
 }

@@ -34,10 +34,10 @@ fn run<F: Book, R: Ranking>(
     ensures written { list.new ≡ (after R.Ranking.good (record { auction = open_auction stage book.old; list = list.old }) (map (asked F.Book.orders) steps.now)).list }
 {
     let mut held = Held::Open(stage);
-    let mut place = 0;
-    for step in steps {
-        given[place] = perform::<F, R>(&mut held, book, step, list);
-        place += 1;
+    for (place, step) in steps.iter().enumerate() {
+        let (next, answer) = perform::<F, R>(held, book, step, list);
+        held = next;
+        given[place] = answer;
     }
 }
 
@@ -58,11 +58,7 @@ pub fn replay<F: Book, R: Ranking>(
     if given.len() < steps.len() {
         return Err(Failure::AnswersShort);
     }
-    match start(book, last_sale) {
-        Ok(stage) => {
-            run::<F, R>(stage, book, steps, list, given);
-            Ok(())
-        }
-        Err(refusal) => Err(Failure::Refused(refusal)),
-    }
+    let auction = start(book, last_sale).map_err(Failure::Refused)?;
+    run::<F, R>(auction, book, steps, list, given);
+    Ok(())
 }

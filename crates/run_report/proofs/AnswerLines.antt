@@ -2,8 +2,7 @@
 use Rattle.std.proofs.Common.{◌≡◌, ℕ, ◌+◌, ◌<◌, ◌≤◌, List, ◌++◌, map, length, get_or, drop, sym, ap, ◌∙◌}
 use Rattle.std.proofs.lemmas.List.{append_assoc, append-nil, drop_all, drop_more}
 use Rattle.cross.specs.declared.allotment.Allotment.{Allotment}
-use Rattle.replay.specs.declared.answer.Answer.{Answer}
-use Rattle.replay.specs.Performing.{reply}
+use Rattle.replay.specs.Performing.{Answer, reply}
 use Rattle.run_report.specs.Answers.{Shown, added_lines, all_lines, answer_lines, event_line, shown}
 
 pub told : (list : List Allotment) (place : ℕ) (s : Shown) (answer case : Answer) (before mid final : List ℕ)

@@ -5,8 +5,8 @@ use Rattle.std.proofs.lemmas.Bool.{cond_both, cond-false}
 use Rattle.market.specs.Calls.{Call, enter, cancel, quote, publish, lock, shut, cross}
 use Rattle.market.specs.declared.order.OrderTerms.{OrderTerms}
 use Rattle.cross.specs.declared.allotment.Allotment.{Allotment}
-use Rattle.auction.specs.Auctions.{in_crossed}
-use Rattle.auction.specs.Refusing.{causes, first_cause, first_of, has_call, outside_values}
+use Rattle.auction.specs.Refusing.{causes, first_cause, first_of, outside_values}
+use Rattle.auction.specs.Stages.{has_call, in_crossed}
 use Rattle.replay.specs.Performing.{Done, State, accepted_done, performed, refused_done}
 use Rattle.replay.specs.Runs.{Asked, after, answers, step}
 use Rattle.run_report.specs.Answers.{all_lines, answer_lines, run_lines}

@@ -9,11 +9,11 @@ use crate::decimal::push_decimal;
 use crate::line::{push_line, push_numbers};
 use auction::answer::{Figures, Outcome};
 use cross::allotment::Allotment;
-use replay::answer::Answer;
+use replay::answer::{Answer, Effect};
 use std::alloc::AllocError;
 
 /// What a line shows of an answer.
-#[derive(Clone, Copy)]
+#[derive(Clone, Copy, Default)]
 struct Columns {
     number: u8,
     price: u32,
@@ -24,31 +24,25 @@ fn columns_of(answer: Answer) -> Columns
     ensures { record { number = result.number; price = result.price; shares = result.shares } ≡ shown (reply answer) }
 {
     match answer {
-        Answer::Refused(refusal) => Columns {
+        Err(refusal) => Columns {
             number: refusal.number(),
-            price: 0,
-            shares: 0,
+            ..Columns::default()
         },
-        Answer::Entered(shares) | Answer::Cancelled(shares) => Columns {
-            number: 0,
-            price: 0,
+        Ok(Effect::Entered(shares) | Effect::Cancelled(shares)) => Columns {
             shares,
+            ..Columns::default()
         },
-        Answer::Published(figures) => Columns {
+        Ok(Effect::Published(figures)) => Columns {
             number: 0,
             price: figures.reference_price,
             shares: figures.paired_shares,
         },
-        Answer::Crossed(outcome) => Columns {
+        Ok(Effect::Crossed(outcome)) => Columns {
             number: 0,
             price: outcome.price,
             shares: outcome.executed,
         },
-        Answer::Quoted | Answer::Moved => Columns {
-            number: 0,
-            price: 0,
-            shares: 0,
-        },
+        Ok(Effect::Quoted | Effect::Moved) => Columns::default(),
     }
 }
 
@@ -135,8 +129,8 @@ pub(crate) fn push_answer(
 {
     push_event(text, place, columns_of(answer))?;
     match answer {
-        Answer::Published(figures) => push_info(text, figures),
-        Answer::Crossed(outcome) => {
+        Ok(Effect::Published(figures)) => push_info(text, figures),
+        Ok(Effect::Crossed(outcome)) => {
             push_fills(text, first_of(list, outcome.records))?;
             push_left(text, outcome)
         }

@@ -14,7 +14,7 @@ use book::Book;
 use cross::allotment::Allotment;
 use cross::ranking::{ByDisplay, ByShares};
 use market::ranking::RankingName;
-use replay::answer::Answer;
+use replay::answer::{Answer, Effect};
 use replay::replay;
 use replay::step::{Failure, Step};
 use session::events::FiledEvents;
@@ -73,7 +73,7 @@ pub(crate) fn answers_of<'a>(
     let mut book = AuctionBook::new(heap)?;
     let mut steps = Vec::with_capacity(heap, events.count())?;
     push_steps(&mut steps, resting, events);
-    let mut given = vec![in heap; Answer::Quoted; events.count()]?;
+    let mut given = vec![in heap; Ok(Effect::Quoted); events.count()]?;
     let last_sale = heading.last_sale.cents;
     match replay_by(
         heading.ranking,

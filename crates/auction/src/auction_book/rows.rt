@@ -35,20 +35,7 @@ impl AuctionBook {
         ensures value { result ≡ place_of (accepted self.now) entry_number }
         ensures within { IfSome result (λ i. i < length (accepted self.now)) }
     {
-        for (i, row) in self.rows.iter().enumerate() {
-            if row.entry == entry_number {
-                return Some(i);
-            }
-        }
-        None
-    }
-
-    fn cut(&mut self, place: usize, by: u32)
-        requires within { place < length (accepted self.old) }
-        requires part { by < (at_place (accepted self.old) place).shares }
-        ensures { accepted self.new ≡ slice_set (accepted self.old) place (lowered (at_place (accepted self.old) place) by) }
-    {
-        lower(&mut self.rows[place], by);
+        self.rows.iter().position(|row| row.entry == entry_number)
     }
 
     /// Takes up to the asked shares off the order at a place, and answers those taken.
@@ -62,15 +49,7 @@ impl AuctionBook {
             let _ = self.rows.remove(place);
             return shares;
         }
-        self.cut(place, asked);
+        self.rows[place].shares -= asked;
         asked
     }
-}
-
-/// Lowers the shares of one order, which keeps some.
-fn lower(row: &mut OrderTerms, by: u32)
-    requires { by < row.old.shares }
-    ensures { row.new ≡ lowered row.old by }
-{
-    row.shares -= by;
 }

@@ -1,31 +1,41 @@
-//! Setting the quote, and moving on.
+//! Moving on to the next stage.
 
 ghost use Rattle.std.specs.Prelude.{◌≡◌, [], ◌∷◌, MatchResult, nat_lt};
-ghost use Rattle.auction.specs.Refusing.{first_of, outside, refusal, verdict};
+ghost use Rattle.auction.specs.Refusing.{first_of, outside, refusal, verdict_back};
 ghost use Rattle.auction.specs.Schedule.{day_end};
 
-use super::Progress;
+use super::{Auction, Progress};
 use crate::schedule::DAY_END;
-use market::quote::Quote;
 use market::refusal::Refusal;
+use std::marker::PhantomData;
 
-impl Progress {
-    pub(super) fn set_quote(&mut self, time: u32, quote: Quote) -> Result<(), Refusal>
-        ensures cause { verdict result ≡ refusal (first_of ((6, nat_lt time self.old.last_time) ∷ (7, outside 0 day_end time) ∷ [])) }
-        ensures after { MatchResult result (λ _. self.new ≡ record { last_sale = self.old.last_sale; last_time = time; last_entry = self.old.last_entry; quote = quote }) (λ _. self.new ≡ self.old) }
+impl<S> Auction<S> {
+    /// At another stage and a later time, otherwise as it was.
+    pub(super) fn moved_to<T>(self, time: u32) -> Auction<T>
+        ensures { result.progress ≡ record self.progress { last_time = time } }
     {
-        self.check_time(time, 0, DAY_END)?;
-        self.last_time = time;
-        self.quote = quote;
-        Ok(())
+        let Auction { progress, stage: _ } = self;
+        Auction {
+            progress: Progress {
+                last_time: time,
+                ..progress
+            },
+            stage: PhantomData,
+        }
     }
 
-    /// At a later time, otherwise as it was.
-    pub(super) fn moved_to(self, time: u32) -> Progress
-        ensures { result ≡ record { last_sale = self.last_sale; last_time = time; last_entry = self.last_entry; quote = self.quote } }
+    /// Moves on, from a time of the day on; refused, the auction is handed back as it was.
+    pub(super) fn move_on<T>(
+        self,
+        time: u32,
+        from: u32,
+    ) -> Result<Auction<T>, (Auction<S>, Refusal)>
+        ensures cause { verdict_back result ≡ refusal (first_of ((6, nat_lt time self.progress.last_time) ∷ (7, outside from day_end time) ∷ [])) }
+        ensures after { MatchResult result (λ s. s.progress ≡ record self.progress { last_time = time }) (λ e. e.0 ≡ self) }
     {
-        let mut progress = self;
-        progress.last_time = time;
-        progress
+        match self.progress.check_time(time, from, DAY_END) {
+            Ok(()) => Ok(self.moved_to(time)),
+            Err(refusal) => Err((self, refusal)),
+        }
     }
 }

@@ -2,9 +2,10 @@
 
 ghost use Rattle.std.specs.Prelude.{◌≡◌, ◌<◌, ◌≤◌, length, if◌then◌else◌, MatchResult, nat_eq};
 ghost use Rattle.market.specs.Causes.{at, cause};
-ghost use Rattle.auction.specs.Auctions.{auction_at, in_shut, whole};
+ghost use Rattle.auction.specs.Auctions.{auction_at, whole};
 ghost use Rattle.auction.specs.Outcomes.{list_after, outcome};
 ghost use Rattle.auction.specs.Rows.{accepted};
+ghost use Rattle.auction.specs.Stages.{in_shut};
 
 use super::Progress;
 use crate::answer::Outcome;
@@ -60,7 +61,7 @@ impl Progress {
             list,
         )?;
         let records = whole.count();
-        let settlement = Settlement::of_first(book, list, records);
+        let settlement = Settlement::of(book, &list[..records]);
         Ok(answered(crossing, settlement, records))
     }
 }

@@ -1,28 +1,19 @@
-//! The calls of an open auction: orders come and go.
+//! The calls that only an open auction has: in it orders also go.
 
 ghost use Rattle.std.specs.Prelude.{◌≡◌, MatchResult};
-ghost use Rattle.market.specs.Calls.{cancel, enter, lock, quote};
-ghost use Rattle.market.specs.Ranges.{cents_of};
-ghost use Rattle.auction.specs.Auctions.{in_locked, locked_auction, open_auction};
-ghost use Rattle.auction.specs.Changing.{cancelled, entered, moved, quoted, withdrawn};
+ghost use Rattle.market.specs.Calls.{cancel, lock};
+ghost use Rattle.auction.specs.Auctions.{locked_auction, open_auction};
+ghost use Rattle.auction.specs.Changing.{cancelled, moved, withdrawn};
 ghost use Rattle.auction.specs.Refusing.{call_cause, refusal, verdict, verdict_back};
+ghost use Rattle.auction.specs.Stages.{in_locked};
 
 use super::{Locked, Open};
 use crate::auction_book::AuctionBook;
-use crate::schedule::{DAY_END, LOCK_TIME};
-use market::order::{Order, lawful_shares};
-use market::quote::Quote;
+use crate::schedule::LOCK_TIME;
+use market::order::lawful_shares;
 use market::refusal::Refusal;
 
 impl Open {
-    /// Appends an order to the auction book, and answers its shares.
-    pub fn enter(&mut self, book: &mut AuctionBook, time: u32, order: Order) -> Result<u32, Refusal>
-        ensures cause { verdict result ≡ refusal (call_cause (open_auction self.old book.old) time (enter order.terms)) }
-        ensures after { MatchResult result (λ n. (n ≡ order.terms.shares) × (open_auction self.new book.new ≡ entered (open_auction self.old book.old) time order.terms)) (λ _. (self.new ≡ self.old) × (book.new ≡ book.old)) }
-    {
-        self.progress.take_in(book, time, LOCK_TIME, false, order)
-    }
-
     /// Takes up to the asked shares off the order of an entry number, and answers those taken. If none are left the order
     /// goes and the later ones move up one place; otherwise it is cut in its place.
     pub fn cancel(
@@ -47,24 +38,11 @@ impl Open {
         Ok(taken)
     }
 
-    /// Replaces the quote.
-    pub fn quote(&mut self, book: &AuctionBook, time: u32, new: Quote) -> Result<(), Refusal>
-        ensures cause { verdict result ≡ refusal (call_cause (open_auction self.old book.now) time (quote (cents_of new.bid) (cents_of new.offer))) }
-        ensures after { MatchResult result (λ _. open_auction self.new book.now ≡ quoted (open_auction self.old book.now) time (cents_of new.bid) (cents_of new.offer)) (λ _. self.new ≡ self.old) }
-    {
-        self.progress.set_quote(time, new)
-    }
-
     /// Locks the auction; refused, it is handed back as it was.
     pub fn lock(self, book: &AuctionBook, time: u32) -> Result<Locked, (Open, Refusal)>
         ensures cause { verdict_back result ≡ refusal (call_cause (open_auction self book.now) time lock) }
         ensures after { MatchResult result (λ s. locked_auction s book.now ≡ moved (open_auction self book.now) time in_locked) (λ e. e.0 ≡ self) }
     {
-        match self.progress.check_time(time, LOCK_TIME, DAY_END) {
-            Ok(()) => Ok(Locked {
-                progress: self.progress.moved_to(time),
-            }),
-            Err(refusal) => Err((self, refusal)),
-        }
+        self.move_on(time, LOCK_TIME)
     }
 }

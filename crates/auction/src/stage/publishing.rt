@@ -1,13 +1,15 @@
 //! The published figures.
 
-ghost use Rattle.std.specs.Prelude.{◌≡◌, [], ◌∷◌, MatchResult, nat_lt};
-ghost use Rattle.auction.specs.Auctions.{auction_at, in_shut};
+ghost use Rattle.std.specs.Prelude.{◌≡◌, MatchResult};
+ghost use Rattle.market.specs.Calls.{publish};
+ghost use Rattle.auction.specs.Auctions.{auction_at, auction_of};
+ghost use Rattle.auction.specs.Changing.{moved};
 ghost use Rattle.auction.specs.Publishing.{published};
-ghost use Rattle.auction.specs.Refusing.{first_of, outside, refusal, verdict};
-ghost use Rattle.auction.specs.Schedule.{day_end};
+ghost use Rattle.auction.specs.Refusing.{call_cause, refusal, verdict};
 ghost use Rattle.auction.specs.Rows.{accepted};
+ghost use Rattle.auction.specs.Stages.{in_shut};
 
-use super::Progress;
+use super::{Auction, Progress, Publishes};
 use crate::answer::Figures;
 use crate::auction_book::AuctionBook;
 use crate::schedule::DAY_END;
@@ -43,19 +45,22 @@ impl Progress {
             twice_middle: twice,
         }
     }
+}
 
-    pub(super) fn publish<F: Book>(
+impl<S: Publishes> Auction<S> {
+    /// The published figures, with any book as the filed book.
+    pub fn publish<F: Book>(
         &mut self,
         book: &AuctionBook,
         time: u32,
         filed: &F,
     ) -> Result<Figures, Refusal>
-        ensures cause { verdict result ≡ refusal (first_of ((6, nat_lt time self.old.last_time) ∷ (7, outside 0 day_end time) ∷ [])) }
-        ensures after { MatchResult result (λ f. (f ≡ published (auction_at in_shut self.old (accepted book.now)) (F.Book.orders filed.now)) × (self.new ≡ record { last_sale = self.old.last_sale; last_time = time; last_entry = self.old.last_entry; quote = self.old.quote })) (λ _. self.new ≡ self.old) }
+        ensures cause { verdict result ≡ refusal (call_cause (auction_of S.stage self.old book.now) time publish) }
+        ensures after { MatchResult result (λ f. (f ≡ published (auction_of S.stage self.old book.now) (F.Book.orders filed.now)) × (auction_of S.stage self.new book.now ≡ moved (auction_of S.stage self.old book.now) time S.stage)) (λ _. self.new ≡ self.old) }
     {
-        self.check_time(time, 0, DAY_END)?;
-        let figures = self.figures_of(book, filed);
-        self.last_time = time;
+        self.progress.check_time(time, 0, DAY_END)?;
+        let figures = self.progress.figures_of(book, filed);
+        self.progress.last_time = time;
         Ok(figures)
     }
 }

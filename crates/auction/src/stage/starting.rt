@@ -5,11 +5,12 @@ ghost use Rattle.market.specs.Prices.{lawful_price};
 ghost use Rattle.auction.specs.Auctions.{open_auction, started};
 ghost use Rattle.auction.specs.Refusing.{first_of, refusal, verdict};
 
-use super::{Open, Progress};
+use super::{Auction, Open, Progress};
 use crate::auction_book::AuctionBook;
 use market::price::Price;
 use market::quote::Quote;
 use market::refusal::Refusal;
+use std::marker::PhantomData;
 
 /// Starts an auction from a last sale, in cents, and empties its book. A refused start changes nothing.
 pub fn start(book: &mut AuctionBook, last_sale: u32) -> Result<Open, Refusal>
@@ -22,10 +23,10 @@ pub fn start(book: &mut AuctionBook, last_sale: u32) -> Result<Open, Refusal>
         last_sale,
         last_time: 0,
         last_entry: 0,
-        quote: Quote {
-            bid: None,
-            offer: None,
-        },
+        quote: Quote::default(),
     };
-    Ok(Open { progress })
+    Ok(Auction {
+        progress,
+        stage: PhantomData,
+    })
 }

@@ -7,8 +7,7 @@ use Rattle.session.specs.Contents.{present}
 use Rattle.session.specs.Reading.{handed}
 use Rattle.session.specs.Records.{events_in, orders_in}
 use Rattle.session.specs.declared.body.BodyKind.TheVariants.{Resting, Events}
-use Rattle.replay.specs.declared.answer.Answer.{Answer}
-use Rattle.replay.specs.Performing.{reply}
+use Rattle.replay.specs.Performing.{Answer, reply}
 use Rattle.replay.specs.Runs.{first_state}
 use Rattle.run_report.specs.Answers.{all_lines, run_lines}
 use Rattle.run_report.specs.Sessions.{asked_with, blank_list, or_empty, ranking_of}

@@ -6,9 +6,8 @@ use Rattle.session.specs.declared.record.Record.{Ghosts}
 use Rattle.session.specs.declared.record.filed.FiledRecords.{FiledRecords}
 use Rattle.market.specs.Calls.{Timed}
 use Rattle.market.specs.RankingNames.{ranking_number}
-use Rattle.replay.specs.declared.answer.Answer.{Answer}
 use Rattle.replay.specs.declared.step.Step.{Step}
-use Rattle.replay.specs.Performing.{reply}
+use Rattle.replay.specs.Performing.{Answer, reply}
 use Rattle.replay.specs.Replaying.{Fails}
 use Rattle.replay.specs.Runs.{Asked, after, answers, asked, first_state}
 use Rattle.run_report.specs.Sessions.{asked_with, filed_orders, ranking_of}

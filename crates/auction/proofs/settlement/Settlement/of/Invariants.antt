@@ -1,7 +1,6 @@
 use Rattle.std.proofs.Common.{◌≡◌, take}
 use Rattle.auction.specs.Rows.{accepted}
-use Rattle.auction.specs.Settling.{settled_by}
-use Rattle.auction.proofs.SettlingSteps.{Small}
+use Rattle.auction.specs.Settling.{Small, settled_by}
 use Rattle.auction.proofs.settlement.Settlement.of.Given as goal
 
 -- the records passed are settled

@@ -1,8 +1,9 @@
 -- What the search answers in each range is what is published.
 use Rattle.std.proofs.Common.{◌∙◌, w64, SFits, rules}
 use Rattle.std.proofs.lemmas.Int.{to_z-of_z}
-use Rattle.auction.specs.Auctions.{auction_at, in_shut}
+use Rattle.auction.specs.Auctions.{auction_at}
 use Rattle.auction.specs.Rows.{accepted}
+use Rattle.auction.specs.Stages.{in_shut}
 use Rattle.auction.proofs.FigureSums.{figures_are}
 use Rattle.auction.proofs.stage.Progress.figures_of.Goals as goal
 
