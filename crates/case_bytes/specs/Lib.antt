@@ -1,0 +1,3 @@
+-- What the bytes of a case are.
+pub mod Digits
+pub mod Runs
