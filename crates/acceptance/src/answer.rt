@@ -62,7 +62,7 @@ fn print_heading(
     note: usize,
 ) -> io::Result<()> {
     let last_sale = heading.last_sale.cents;
-    let ranking = heading.ranking;
+    let ranking = heading.ranking.number();
     println!(rt; "{name} read,{last_sale},{ranking},{orders},{events},{note}")
 }
 
@@ -76,12 +76,12 @@ pub(crate) fn print_refusal(rt: &HostRuntime, name: &str, refusal: Refusal) -> i
 
 /// Reads the file, and prints what it holds or why it is refused.
 pub(crate) fn print(rt: &HostRuntime, name: &str, file: &[u8]) -> io::Result<()> {
-    let session = read(file);
-    match session.verdict {
-        Ok(heading) => {
+    match read(file) {
+        Ok(session) => {
             let orders = session.resting.count();
             let events = session.events.count();
-            print_heading(rt, name, heading, orders, events, session.note.len())?;
+            let note = session.note.len();
+            print_heading(rt, name, session.heading, orders, events, note)?;
             print_orders(rt, session.resting)?;
             print_events(rt, session.events)
         }

@@ -45,11 +45,10 @@ fn print_clearing<B: Book>(
 
 /// Prices the resting orders of a file.
 pub(crate) fn print(rt: &HostRuntime, name: &str, bounds: Bounds, file: &[u8]) -> io::Result<()> {
-    let session = read(file);
-    if let Err(refusal) = session.verdict {
-        return print_refusal(rt, name, refusal);
+    match read(file) {
+        Ok(session) => print_clearing(rt, name, bounds, &session.resting),
+        Err(refusal) => print_refusal(rt, name, refusal),
     }
-    print_clearing(rt, name, bounds, &session.resting)
 }
 
 /// Prices the resting orders of two files, one after the other.
@@ -60,19 +59,16 @@ pub(crate) fn print_joined(
     first: &[u8],
     second: &[u8],
 ) -> io::Result<()> {
-    let first = read(first);
-    let second = read(second);
-    if let Err(refusal) = first.verdict {
-        return print_refusal(rt, name, refusal);
+    match (read(first), read(second)) {
+        (Ok(first), Ok(second)) => {
+            let joined = Joined {
+                first: first.resting,
+                second: second.resting,
+            };
+            print_clearing(rt, name, bounds, &joined)
+        }
+        (Err(refusal), _) | (_, Err(refusal)) => print_refusal(rt, name, refusal),
     }
-    if let Err(refusal) = second.verdict {
-        return print_refusal(rt, name, refusal);
-    }
-    let joined = Joined {
-        first: first.resting,
-        second: second.resting,
-    };
-    print_clearing(rt, name, bounds, &joined)
 }
 
 /// One side of a quote: 0 is none.

@@ -3,3 +3,4 @@ pub mod Prices
 pub mod Orders
 pub mod Ranges
 pub mod Calls
+pub mod RankingNames

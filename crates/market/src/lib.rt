@@ -10,4 +10,5 @@ pub mod order;
 pub mod price;
 pub mod quote;
 pub mod range;
+pub mod ranking;
 pub mod refusal;

@@ -1,6 +1,7 @@
 //! The figures of a session's resting orders by themselves, in the collar of the last sale.
 
 ghost use Rattle.std.specs.Prelude.{◌≡◌, ◌≤◌, [], ◌∷◌, ◌++◌, length, IfOk, string_bytes, codes};
+ghost use Rattle.market.specs.RankingNames.{ranking_number};
 ghost use Rattle.market.specs.Ranges.{collar_highest, collar_lowest, twice_middle};
 ghost use Rattle.report.specs.Pricing.{Priced};
 ghost use Rattle.report.specs.Text.{figures_text, first_line, line, ranking_of};
@@ -28,7 +29,7 @@ impl Figures {
         requires { length (B.Book.orders book.now) ≤ length list.old }
         ensures low { result.low ≡ collar_lowest heading.last_sale.cents heading.last_sale.cents }
         ensures high { result.high ≡ collar_highest heading.last_sale.cents heading.last_sale.cents }
-        ensures crossed { Priced result.low result.high (ranking_of heading.ranking) (B.Book.orders book.now) (twice_middle heading.last_sale.cents heading.last_sale.cents) list.old list.new result.price result.shares }
+        ensures crossed { Priced result.low result.high (ranking_of (ranking_number heading.ranking)) (B.Book.orders book.now) (twice_middle heading.last_sale.cents heading.last_sale.cents) list.old list.new result.price result.shares }
     {
         let last = PriceRange {
             lowest: heading.last_sale,
@@ -54,10 +55,10 @@ fn read_text(
     note: usize,
     heading: Heading,
 ) -> Result<String, AllocError>
-    ensures { IfOk result (λ t. string_bytes t ≡ first_line ++ line (codes "read") (resting ∷ events ∷ note ∷ heading.last_sale.cents ∷ heading.ranking ∷ []) []) }
+    ensures { IfOk result (λ t. string_bytes t ≡ first_line ++ line (codes "read") (resting ∷ events ∷ note ∷ heading.last_sale.cents ∷ ranking_number heading.ranking ∷ []) []) }
 {
     let last_sale = heading.last_sale.cents;
-    let ranking = heading.ranking;
+    let ranking = heading.ranking.number();
     format!(in heap; "{FIRST_LINE}read,{resting},{events},{note},{last_sale},{ranking}\n")
 }
 
@@ -80,7 +81,7 @@ pub(crate) fn figures_text(
     heading: Heading,
     figures: Figures,
 ) -> Result<String, AllocError>
-    ensures { IfOk result (λ t. string_bytes t ≡ first_line ++ figures_text resting events note heading.last_sale.cents heading.ranking figures.low figures.high figures.price figures.shares []) }
+    ensures { IfOk result (λ t. string_bytes t ≡ first_line ++ figures_text resting events note heading.last_sale.cents (ranking_number heading.ranking) figures.low figures.high figures.price figures.shares []) }
 {
     let mut text = read_text(heap, resting, events, note, heading)?;
     let priced = priced_text(heap, figures)?;

@@ -4,7 +4,7 @@
 
 ghost use Rattle.std.specs.Prelude.{◌≡◌, ◌++◌, IfOk, string_bytes};
 ghost use Rattle.market.specs.Causes.{cause};
-ghost use Rattle.session.specs.Reading.{Accepts, Reads, handed};
+ghost use Rattle.session.specs.Reading.{Accepts, handed};
 ghost use Rattle.report.specs.Text.{Reports, first_line, refused_line, session_lines};
 
 use crate::figures::{Figures, figures_text};
@@ -13,7 +13,6 @@ use book::Book;
 use cross::allotment::Allotment;
 use market::refusal::Refusal;
 use session::file::{LARGEST_FILE, SessionFile, read};
-use session::heading::Heading;
 use std::alloc::{AllocError, Global};
 
 mod figures;
@@ -39,37 +38,23 @@ fn refused_text(heap: Global, refusal: Refusal) -> Result<String, AllocError>
     format!(in heap; "{FIRST_LINE}refused,{number},{layer},{byte}\n")
 }
 
-fn accepted_text(
-    heap: Global,
-    session: &SessionFile<'_>,
-    heading: Heading,
-) -> Result<String, AllocError>
-    requires { Accepts session.now.file.now session.now heading }
-    ensures { IfOk result (λ t. string_bytes t ≡ first_line ++ session_lines (handed session.now heading)) }
+fn accepted_text(heap: Global, session: &SessionFile<'_>) -> Result<String, AllocError>
+    requires { Accepts session.now.file.now session.now }
+    ensures { IfOk result (λ t. string_bytes t ≡ first_line ++ session_lines (handed session.now)) }
 {
     let mut list = [Allotment { place: 0, fill: 0 }; MOST_RESTING];
     let orders = session.resting.count();
-    let figures = Figures::of(&session.resting, heading, &mut list);
+    let figures = Figures::of(&session.resting, session.heading, &mut list);
     let mut text = figures_text(
         heap,
         orders,
         session.events.count(),
         session.note.len(),
-        heading,
+        session.heading,
         figures,
     )?;
     push_fills(heap, &mut text, &list[0..orders])?;
     Ok(text)
-}
-
-fn text_of(heap: Global, session: &SessionFile<'_>) -> Result<String, AllocError>
-    requires { Reads session.now.file.now session.now }
-    ensures { IfOk result (λ t. Reports session.now.file.now (string_bytes t)) }
-{
-    match session.verdict {
-        Ok(heading) => accepted_text(heap, session, heading),
-        Err(refusal) => refused_text(heap, refusal),
-    }
 }
 
 /// The report of a session file: what is in it, or the one cause for which it is refused. It fails only for want
@@ -77,6 +62,8 @@ fn text_of(heap: Global, session: &SessionFile<'_>) -> Result<String, AllocError
 pub fn report(heap: Global, file: &[u8]) -> Result<String, AllocError>
     ensures { IfOk result (λ t. Reports file.now (string_bytes t)) }
 {
-    let session = read(file);
-    text_of(heap, &session)
+    match read(file) {
+        Ok(session) => accepted_text(heap, &session),
+        Err(refusal) => refused_text(heap, refusal),
+    }
 }

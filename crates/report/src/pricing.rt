@@ -1,33 +1,31 @@
 //! What the resting orders of a session would do by themselves, in the collar of the last sale.
 
-ghost use Rattle.std.specs.Prelude.{◌≡◌, ◌<◌, true, ◌||◌, length, MatchResult, ◌==◌};
+ghost use Rattle.std.specs.Prelude.{◌≡◌, ◌<◌, length, MatchResult};
 ghost use Rattle.market.specs.Causes.{at, cause};
+ghost use Rattle.market.specs.RankingNames.{ranking_number};
 ghost use Rattle.cross.specs.Crossing.{Crossed};
 ghost use Rattle.report.specs.Text.{ranking_of};
 
 use book::Book;
 use cross::allotment::Allotment;
 use cross::crossing::{Crossing, cross};
-use cross::ranking::{ByDisplay, ByShares, Ranking};
+use cross::ranking::{ByDisplay, ByShares};
 use market::range::PriceRange;
+use market::ranking::RankingName;
 use market::refusal::Refusal;
 
 /// Crosses a book by the ranking that a heading names.
 pub(crate) fn cross_by<B: Book>(
-    ranking: u8,
+    ranking: RankingName,
     book: &B,
     range: PriceRange,
     twice: u32,
     list: &mut [Allotment],
 ) -> Result<Crossing, Refusal>
-    requires { (ranking == 1 || ranking == 2) ≡ true }
-    ensures { MatchResult result (Crossed range.lowest.cents range.highest.cents (ranking_of ranking) (B.Book.orders book.now) twice list.old list.new) (λ e. (cause e ≡ at 12 0 0) × (length list.old < length (B.Book.orders book.now)) × (list.new ≡ list.old)) }
+    ensures { MatchResult result (Crossed range.lowest.cents range.highest.cents (ranking_of (ranking_number ranking)) (B.Book.orders book.now) twice list.old list.new) (λ e. (cause e ≡ at 12 0 0) × (length list.old < length (B.Book.orders book.now)) × (list.new ≡ list.old)) }
 {
-    if ranking == ByDisplay::NUMBER {
-        return cross::<B, ByDisplay>(book, range, twice, list);
+    match ranking {
+        RankingName::Display => cross::<B, ByDisplay>(book, range, twice, list),
+        RankingName::Shares => cross::<B, ByShares>(book, range, twice, list),
     }
-    if ranking == ByShares::NUMBER {
-        return cross::<B, ByShares>(book, range, twice, list);
-    }
-    unreachable()
 }

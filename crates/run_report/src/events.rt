@@ -1,6 +1,7 @@
 //! The run of a session's events.
 
-ghost use Rattle.std.specs.Prelude.{◌≡◌, ◌≤◌, true, ◌||◌, [], map, length, take, IfOk, vec_capacity, MatchResult, ◌==◌};
+ghost use Rattle.std.specs.Prelude.{◌≡◌, ◌≤◌, [], map, length, take, IfOk, vec_capacity, MatchResult};
+ghost use Rattle.market.specs.RankingNames.{ranking_number};
 ghost use Rattle.replay.specs.Performing.{reply};
 ghost use Rattle.replay.specs.Replaying.{Fails, Ran};
 ghost use Rattle.auction.specs.Rows.{accepted};
@@ -11,7 +12,8 @@ ghost use Rattle.run_report.specs.Sessions.{asked_with, filed_orders, ranking_of
 use auction::auction_book::AuctionBook;
 use book::Book;
 use cross::allotment::Allotment;
-use cross::ranking::{ByDisplay, ByShares, Ranking};
+use cross::ranking::{ByDisplay, ByShares};
+use market::ranking::RankingName;
 use replay::answer::Answer;
 use replay::replay;
 use replay::step::{Failure, Step};
@@ -22,23 +24,19 @@ use std::alloc::{AllocError, Global};
 
 /// Runs the calls under the ranking that a heading names.
 fn replay_by<F: Book>(
-    ranking: u8,
+    ranking: RankingName,
     book: &mut AuctionBook,
     last_sale: u32,
     steps: &[Step<F>],
     list: &mut [Allotment],
     given: &mut [Answer],
 ) -> Result<(), Failure>
-    requires { (ranking == 1 || ranking == 2) ≡ true }
-    ensures { MatchResult result (λ _. Ran (ranking_of ranking) (first_state last_sale list.old) (map (asked F.Book.orders) steps.now) (map reply (take (length steps.now) given.new)) (accepted book.new) list.new) (Fails last_sale (length steps.now) (length given.old)) }
+    ensures { MatchResult result (λ _. Ran (ranking_of (ranking_number ranking)) (first_state last_sale list.old) (map (asked F.Book.orders) steps.now) (map reply (take (length steps.now) given.new)) (accepted book.new) list.new) (Fails last_sale (length steps.now) (length given.old)) }
 {
-    if ranking == ByDisplay::NUMBER {
-        return replay::<F, ByDisplay>(book, last_sale, steps, list, given);
+    match ranking {
+        RankingName::Display => replay::<F, ByDisplay>(book, last_sale, steps, list, given),
+        RankingName::Shares => replay::<F, ByShares>(book, last_sale, steps, list, given),
     }
-    if ranking == ByShares::NUMBER {
-        return replay::<F, ByShares>(book, last_sale, steps, list, given);
-    }
-    unreachable()
 }
 
 /// Lists the events as calls, each with the resting orders as its filed book.
@@ -70,7 +68,7 @@ pub(crate) fn answers_of<'a>(
     events: FiledEvents<'a>,
     list: &mut [Allotment],
 ) -> Result<Vec<Answer>, AllocError>
-    ensures { IfOk result (λ v. (map reply v.items ≡ answers (ranking_of heading.ranking) (first_state heading.last_sale.cents list.old) (map (asked_with (orders_in resting.entry.records.now)) (events_in events.entry.records.now))) × (list.new ≡ (after (ranking_of heading.ranking) (first_state heading.last_sale.cents list.old) (map (asked_with (orders_in resting.entry.records.now)) (events_in events.entry.records.now))).list)) }
+    ensures { IfOk result (λ v. (map reply v.items ≡ answers (ranking_of (ranking_number heading.ranking)) (first_state heading.last_sale.cents list.old) (map (asked_with (orders_in resting.entry.records.now)) (events_in events.entry.records.now))) × (list.new ≡ (after (ranking_of (ranking_number heading.ranking)) (first_state heading.last_sale.cents list.old) (map (asked_with (orders_in resting.entry.records.now)) (events_in events.entry.records.now))).list)) }
 {
     let mut book = AuctionBook::new(heap)?;
     let mut steps = Vec::with_capacity(heap, events.count())?;

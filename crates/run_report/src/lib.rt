@@ -5,7 +5,7 @@
 
 ghost use Rattle.std.specs.Prelude.{◌≡◌, ◌++◌, IfOk, string_bytes, OnOk};
 ghost use Rattle.market.specs.Causes.{cause};
-ghost use Rattle.session.specs.Reading.{Accepts, Reads, handed};
+ghost use Rattle.session.specs.Reading.{Accepts, handed};
 ghost use Rattle.run_report.specs.Text.{Reports, first_line, refused_line, session_lines};
 
 use crate::answers::push_answers;
@@ -15,7 +15,6 @@ use auction::auction_book::MOST_ACCEPTED;
 use cross::allotment::Allotment;
 use market::refusal::Refusal;
 use session::file::{LARGEST_FILE, SessionFile, read};
-use session::heading::Heading;
 use session::resting::MOST_RESTING;
 use std::alloc::{AllocError, Global};
 
@@ -53,29 +52,21 @@ fn refused_text(heap: Global, refusal: Refusal) -> Result<String, AllocError>
     Ok(text)
 }
 
-fn accepted_text(
-    heap: Global,
-    session: &SessionFile<'_>,
-    heading: Heading,
-) -> Result<String, AllocError>
-    requires { Accepts session.now.file.now session.now heading }
-    ensures { IfOk result (λ t. string_bytes t ≡ first_line ++ session_lines (handed session.now heading)) }
+fn accepted_text(heap: Global, session: &SessionFile<'_>) -> Result<String, AllocError>
+    requires { Accepts session.now.file.now session.now }
+    ensures { IfOk result (λ t. string_bytes t ≡ first_line ++ session_lines (handed session.now)) }
 {
     let mut list = [Allotment { place: 0, fill: 0 }; MOST_ALLOTMENTS];
-    let answers = answers_of(heap, heading, session.resting, session.events, &mut list)?;
+    let answers = answers_of(
+        heap,
+        session.heading,
+        session.resting,
+        session.events,
+        &mut list,
+    )?;
     let mut text = String::from_str(heap, FIRST_LINE)?;
     push_answers(&mut text, &answers, &list)?;
     Ok(text)
-}
-
-fn text_of(heap: Global, session: &SessionFile<'_>) -> Result<String, AllocError>
-    requires { Reads session.now.file.now session.now }
-    ensures { IfOk result (λ t. Reports session.now.file.now (string_bytes t)) }
-{
-    match session.verdict {
-        Ok(heading) => accepted_text(heap, session, heading),
-        Err(refusal) => refused_text(heap, refusal),
-    }
 }
 
 /// The report of a session file: how each of its events is answered, or the one cause for which it is refused. It fails
@@ -83,6 +74,8 @@ fn text_of(heap: Global, session: &SessionFile<'_>) -> Result<String, AllocError
 pub fn report(heap: Global, file: &[u8]) -> Result<String, AllocError>
     ensures { IfOk result (λ t. Reports file.now (string_bytes t)) }
 {
-    let session = read(file);
-    text_of(heap, &session)
+    match read(file) {
+        Ok(session) => accepted_text(heap, &session),
+        Err(refusal) => refused_text(heap, refusal),
+    }
 }

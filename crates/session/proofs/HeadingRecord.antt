@@ -1,7 +1,12 @@
 -- The heading: eight bytes with no bad field are a heading, and a heading has no bad field and reads as itself.
-use Rattle.std.proofs.Common.{◌≡◌, ℕ, true, List, length, None, refl, arith}
-use Rattle.std.proofs.lemmas.Bool.{eqb-true}
+use Rattle.std.proofs.Common.{◌≡◌, ℕ, true, eqb, List, length, None, Result, Ok, Err, sym, refl, inl, inr, arith}
+use Rattle.std.proofs.lemmas.Bool.{eqb-true, or_cases}
 use Rattle.std.proofs.lemmas.Bool.Decides.{nat_tests}
+use Rattle.std.specs.Result.{IsOk}
+use Rattle.market.specs.RankingNames.{NamesRanking}
+use Rattle.market.specs.declared.ranking.RankingName.{RankingName}
+use Rattle.market.specs.declared.ranking.RankingName.TheVariants.{Display, Shares}
+use Rattle.market.specs.declared.refusal.Refusal.{Refusal}
 use Rattle.market.specs.Prices.{lawful_price, LawfulPrice}
 use Rattle.session.specs.declared.body.BodyKind.TheVariants.{Heading}
 use Rattle.session.specs.declared.field.Values.TheVariants.{Ranking}
@@ -39,3 +44,10 @@ heading_read l r bs h =
     let g : Good heading_fields bs 0 0 =
     (price, (ranking, (rw zeros.0, (rw zeros.1.0, (rw zeros.1.1.0, tt))))) in
     (h.0.0, none_bad heading_fields bs 0 g, w.0, w.1.0)
+
+-- a byte that the field of the ranking may hold names a ranking
+pub names_ranking : (n : ℕ) (r : Result RankingName Refusal) → NamesRanking n r → admits Ranking n ≡ true → IsOk r
+names_ranking n (Ok name) h a = refl
+names_ranking n (Err e) h a =
+    let two = or_cases (eqb n 1) (eqb n 2) a in
+    elim two [ inl one ↦ absurd (h.1 Display (sym (eqb-true n 1 one))) | inr other ↦ absurd (h.1 Shares (sym (eqb-true n 2 other))) ]

@@ -3,11 +3,11 @@ use Rattle.std.proofs.Common.{◌≡◌, ℕ, ◌+◌, ◌*◌, true, false, con
 use Rattle.std.proofs.lemmas.Bool.{eqb-true}
 use Rattle.market.specs.declared.refusal.Refusal.{Refusal}
 use Rattle.market.specs.Causes.{cause}
+use Rattle.market.specs.RankingNames.{ranking_number}
 use Rattle.market.specs.Prices.{LawfulPrice}
 use Rattle.session.specs.declared.body.BodyKind.{BodyKind}
 use Rattle.session.specs.declared.body.BodyKind.TheVariants.{Heading, Resting, Events, Note}
 use Rattle.session.specs.declared.file.SessionFile.{SessionFile}
-use Rattle.session.specs.declared.heading.Heading as heading
 use Rattle.session.specs.declared.field.Values.TheVariants.{Ranking}
 use Rattle.session.specs.Fields.{admits, byte, four, two}
 use Rattle.session.specs.Contents.{body, mask, present, rank, start}
@@ -44,16 +44,18 @@ if_present_same said kind file f bs p q = ap (λ xs. if_present xs kind (said bs
 absent_body : (file : List ℕ) (kind : BodyKind) → present file kind ≡ false → body file kind ≡ []
 absent_body file kind e = ap (λ b. take (cond b (two file (1 + 2 * rank (mask file) kind)) 0) (drop (start file kind) file)) e
 
-pub accepts : (file : List ℕ) (f : SessionFile) (h : heading.Heading) → fault file ≡ None → f.file.now ≡ file
-    → h.last_sale.cents ≡ four (body file Heading) 0 → h.ranking ≡ byte (body file Heading) 4
+pub accepts : (file : List ℕ) (f : SessionFile) → fault file ≡ None → f.file.now ≡ file
+    → f.heading.last_sale.cents ≡ four (body file Heading) 0
+    → ranking_number f.heading.ranking ≡ byte (body file Heading) 4
     → f.resting.records.now ≡ body file Resting → f.events.records.now ≡ body file Events → f.note.now ≡ body file Note
-    → Accepts file f h
-accepts file f h e p l k r v n =
-    let same : handed f h ≡ session_of file = same_session (handed f h) (session_of file) l k
+    → Accepts file f
+accepts file f e p l k r v n =
+    let same : handed f ≡ session_of file = same_session (handed f) (session_of file) l k
     (if_present_same orders_in Resting file f.file.now f.resting.records.now p r)
     (if_present_same events_in Events file f.file.now f.events.records.now p v)
     (if_present_same (λ bs. bs) Note file f.file.now f.note.now p n) in
     record {
+      same = p;
       no_cause = e;
       keeps = subst (KeepsLayout file) (sym same) (layout_kept file e);
       only = λ s layout. sym (layout_read file s layout).1 ∙ sym same;
@@ -65,10 +67,8 @@ accepts file f h e p l k r v n =
       no_note = λ absent. n ∙ absent_body file Note absent;
     }
 
-pub refuses : (file : List ℕ) (f : SessionFile) (e : Refusal) → fault file ≡ Some (cause e)
-    → f.resting.records.now ≡ [] → f.events.records.now ≡ [] → f.note.now ≡ []
-    → Refuses file f e
-refuses file f e because r v n = record {
+pub refuses : (file : List ℕ) (e : Refusal) → fault file ≡ Some (cause e) → Refuses file e
+refuses file e because = record {
   because = because;
   first_length = λ b is. first_length file b (because ∙ ap Some is);
   first_field = λ b is. first_field file b (because ∙ ap Some is);
@@ -76,7 +76,4 @@ refuses file f e because r v n = record {
       let none : fault file ≡ None = (layout_read file s layout).0 in
       let z : ◌≡◌ {A = ℕ} 0 1 = cc in
       absurd (omega arith);
-  no_orders = r;
-  no_events = v;
-  no_note = n;
 }

@@ -1,12 +1,11 @@
 //! A session file that was read.
 
-ghost use Rattle.std.specs.Prelude.{◌≡◌, not, is_some, is_ok};
+ghost use Rattle.std.specs.Prelude.{◌≡◌, None};
 ghost use Rattle.session.specs.Faults.{fault};
 
 use crate::events::FiledEvents;
 use crate::heading::Heading;
 use crate::resting::FiledBook;
-use market::refusal::Refusal;
 
 mod reading;
 
@@ -15,15 +14,15 @@ pub use reading::read;
 /// How many bytes a session file may have.
 pub const LARGEST_FILE: usize = 65_535;
 
-/// What `read` found a file to be. The type itself holds its values only to a verdict that accepts just the files without
-/// a cause of refusal; the rest is what `read` promises of the value that it returns: an accepted file's heading, orders,
-/// events and note are those of its bodies, an absent body counts as empty, and a refused file has none of them.
+/// A file that `read` accepted. The type itself holds its file only to having no cause of refusal; the rest is what `read`
+/// promises of the value that it returns: its heading, orders, events and note are those of its bodies, and an absent
+/// body counts as empty.
 #[derive(Clone, Copy)]
 pub struct SessionFile<'a> {
     pub file: &'a [u8],
-    pub verdict: Result<Heading, Refusal>,
+    pub heading: Heading,
     pub resting: FiledBook<'a>,
     pub events: FiledEvents<'a>,
     pub note: &'a [u8],
-    ghost judged: { is_ok verdict ≡ not (is_some (fault file.now)) },
+    ghost accepted: { fault file.now ≡ None },
 }

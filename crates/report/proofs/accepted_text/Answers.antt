@@ -3,6 +3,7 @@ use Rattle.std.proofs.Common.{◌≡◌, ℕ, ◌-◌, Bool, true, false, cond, 
 use Rattle.std.proofs.lemmas.List.{length-append, take_at}
 use Rattle.std.specs.List.{flat_map}
 use Rattle.market.specs.declared.order.OrderTerms.{OrderTerms}
+use Rattle.market.specs.RankingNames.{ranking_number}
 use Rattle.market.specs.Ranges.{collar_highest, collar_lowest, twice_middle}
 use Rattle.cross.specs.declared.allotment.Allotment.{Allotment}
 use Rattle.cross.specs.Allotments.{allotments, allotted, side_allotments}
@@ -52,12 +53,12 @@ returns c =
     let file = f.file.now in
     let orders = orders_in f.resting.records.now in
     let events = events_in f.events.records.now in
-    let l = c.args.heading.last_sale.cents in
-    let k = c.args.heading.ranking in
+    let l = f.heading.last_sale.cents in
+    let k = ranking_number f.heading.ranking in
     let t = twice_middle l l in
     let no_orders : present file Resting ≡ false → orders ≡ [] = λ absent. ap orders_in (c.requires.no_orders absent) in
     let no_events : present file Events ≡ false → events ≡ [] = λ absent. ap events_in (c.requires.no_events absent) in
-    let all = or_empty (handed f c.args.heading).resting in
+    let all = or_empty (handed f).resting in
     let same : orders ≡ all = listed (present file Resting) orders no_orders in
     let got = c.of-figures.ensures in
     let r = c.of-figures.result in

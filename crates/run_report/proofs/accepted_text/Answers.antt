@@ -1,6 +1,7 @@
 -- What is run and told is the session that is handed out.
 use Rattle.std.proofs.Common.{◌≡◌, ℕ, Bool, true, false, cond, List, [], ◌++◌, map, Some, None, sym, refl, ap, ◌∙◌}
 use Rattle.market.specs.Calls.{Timed}
+use Rattle.market.specs.RankingNames.{ranking_number}
 use Rattle.market.specs.declared.order.OrderTerms.{OrderTerms}
 use Rattle.session.specs.Contents.{present}
 use Rattle.session.specs.Reading.{handed}
@@ -24,12 +25,12 @@ pub returns : goal.returns
 returns c =
     let f = c.args.session.now in
     let file = f.file.now in
-    let h = c.args.heading in
+    let h = f.heading in
     let orders = orders_in f.resting.records.now in
     let events = events_in f.events.records.now in
-    let resting : orders ≡ or_empty (handed f h).resting = listed (present file Resting) orders (λ absent. ap orders_in (c.requires.no_orders absent)) in
-    let timed : events ≡ or_empty (handed f h).events = listed (present file Events) events (λ absent. ap events_in (c.requires.no_events absent)) in
-    let good = ranking_of h.ranking in
+    let resting : orders ≡ or_empty (handed f).resting = listed (present file Resting) orders (λ absent. ap orders_in (c.requires.no_orders absent)) in
+    let timed : events ≡ or_empty (handed f).events = listed (present file Events) events (λ absent. ap events_in (c.requires.no_events absent)) in
+    let good = ranking_of (ranking_number h.ranking) in
     let state = first_state h.last_sale.cents blank_list in
     let Lines : List OrderTerms → List Timed → List ℕ
     = λ os es. run_lines good 0 state (map (asked_with os) es) in

@@ -2,33 +2,17 @@
 
 ghost use Rattle.std.specs.Prelude.{◌≡◌, true, length, Some, None, MatchResult};
 ghost use Rattle.market.specs.Causes.{cause};
-ghost use Rattle.session.specs.Contents.{body, told};
-ghost use Rattle.session.specs.Faults.{bad_field, contents_fault, first_of, fits, wrong_field, wrong_length};
+ghost use Rattle.session.specs.Contents.{body};
+ghost use Rattle.session.specs.Faults.{bad_field, first_of, fits, wrong_field, wrong_length};
 ghost use Rattle.session.specs.Handed.{bytes_of, kind_of};
 
-use super::contents::{start_of, told_length};
+use super::contents::LaidFile;
 use super::{Body, BodyKind};
 use crate::field::first_bad_field;
 use crate::record::fields::heading_fields;
 use crate::record::{EVENT_SIZE, HEADING_SIZE, ORDER_SIZE, Record};
 use crate::resting::MOST_RESTING;
 use market::refusal::Refusal;
-
-/// The body of a kind, as the bytes of the file that it is; an absent one has none.
-pub(crate) fn body_of<'a>(file: &'a [u8], kind: BodyKind) -> Body<'a>
-    requires { contents_fault file.now ≡ None }
-    ensures kind { kind_of result ≡ kind }
-    ensures bytes { bytes_of result ≡ body file.now kind }
-{
-    let from = start_of(file, kind);
-    let bytes = &file[from..from + told_length(file, kind)];
-    match kind {
-        BodyKind::Heading => Body::Heading(bytes),
-        BodyKind::Resting => Body::Resting(bytes),
-        BodyKind::Events => Body::Events(bytes),
-        BodyKind::Note => Body::Note(bytes),
-    }
-}
 
 impl<'a> Body<'a> {
     /// Whether a body of its kind can have its length.
@@ -42,6 +26,15 @@ impl<'a> Body<'a> {
             }
             Body::Events(bytes) => bytes.len() % EVENT_SIZE == 0,
             Body::Note(_) => true,
+        }
+    }
+
+    pub(crate) fn bytes(self) -> &'a [u8]
+        ensures { result.now ≡ bytes_of self.entry }
+    {
+        match self {
+            Body::Heading(bytes) | Body::Resting(bytes) | Body::Events(bytes) | Body::Note(bytes) =>
+                bytes,
         }
     }
 
@@ -59,56 +52,61 @@ impl<'a> Body<'a> {
     }
 }
 
-/// Whether the body of a kind has a length of this kind.
-fn length_fits(file: &[u8], kind: BodyKind) -> bool
-    requires { contents_fault file.now ≡ None }
-    ensures { result ≡ fits kind (told file.now kind) }
-{
-    body_of(file, kind).fits()
-}
-
-/// Refuses a body whose length is none of its kind, by the byte where it begins.
-fn check_length(file: &[u8], kind: BodyKind) -> Result<(), Refusal>
-    requires { contents_fault file.now ≡ None }
-    ensures { MatchResult result (λ _. wrong_length file.now kind ≡ None) (λ e. wrong_length file.now kind ≡ Some (cause e)) }
-{
-    if length_fits(file, kind) {
-        return Ok(());
+impl<'a> LaidFile<'a> {
+    /// The body of a kind, as the bytes of the file that it is; an absent one has none.
+    pub(crate) fn body(self, kind: BodyKind) -> Body<'a>
+        ensures kind { kind_of result ≡ kind }
+        ensures bytes { bytes_of result ≡ body self.entry.listed.bytes.now kind }
+    {
+        let from = self.listed.start_of(kind);
+        let bytes = &self.listed.bytes[from..from + self.listed.length_of(kind)];
+        match kind {
+            BodyKind::Heading => Body::Heading(bytes),
+            BodyKind::Resting => Body::Resting(bytes),
+            BodyKind::Events => Body::Events(bytes),
+            BodyKind::Note => Body::Note(bytes),
+        }
     }
-    Err(Refusal::BodyLength(start_of(file, kind) as u16))
-}
 
-/// Refuses a body with a field outside its values, by the first byte of the first such field.
-fn check_fields_of(file: &[u8], kind: BodyKind) -> Result<(), Refusal>
-    requires laid { contents_fault file.now ≡ None }
-    requires fitting { wrong_length file.now kind ≡ None }
-    ensures { MatchResult result (λ _. wrong_field file.now kind ≡ None) (λ e. wrong_field file.now kind ≡ Some (cause e)) }
-{
-    match body_of(file, kind).first_bad() {
-        Some(byte) => Err(Refusal::FiledField((start_of(file, kind) + byte) as u16)),
-        None => Ok(()),
+    /// Refuses a body whose length is none of its kind, by the byte where it begins.
+    fn check_length(self, kind: BodyKind) -> Result<(), Refusal>
+        ensures { MatchResult result (λ _. wrong_length self.entry.listed.bytes.now kind ≡ None) (λ e. wrong_length self.entry.listed.bytes.now kind ≡ Some (cause e)) }
+    {
+        if self.body(kind).fits() {
+            return Ok(());
+        }
+        Err(Refusal::BodyLength(self.listed.start_of(kind) as u16))
     }
-}
 
-/// Refuses a file with a body of a wrong length, by the first such body.
-pub(crate) fn check_lengths(file: &[u8]) -> Result<(), Refusal>
-    requires { contents_fault file.now ≡ None }
-    ensures { MatchResult result (λ _. first_of (wrong_length file.now) ≡ None) (λ e. first_of (wrong_length file.now) ≡ Some (cause e)) }
-{
-    check_length(file, BodyKind::Heading)?;
-    check_length(file, BodyKind::Resting)?;
-    check_length(file, BodyKind::Events)?;
-    check_length(file, BodyKind::Note)
-}
+    /// Refuses a body with a field outside its values, by the first byte of the first such field.
+    fn check_fields_of(self, kind: BodyKind) -> Result<(), Refusal>
+        requires { wrong_length self.listed.bytes.now kind ≡ None }
+        ensures { MatchResult result (λ _. wrong_field self.entry.listed.bytes.now kind ≡ None) (λ e. wrong_field self.entry.listed.bytes.now kind ≡ Some (cause e)) }
+    {
+        match self.body(kind).first_bad() {
+            Some(byte) => Err(Refusal::FiledField((self.listed.start_of(kind) + byte) as u16)),
+            None => Ok(()),
+        }
+    }
 
-/// Refuses a file with a field outside its values, by the first such byte.
-pub(crate) fn check_fields(file: &[u8]) -> Result<(), Refusal>
-    requires laid { contents_fault file.now ≡ None }
-    requires fitting { first_of (wrong_length file.now) ≡ None }
-    ensures { MatchResult result (λ _. first_of (wrong_field file.now) ≡ None) (λ e. first_of (wrong_field file.now) ≡ Some (cause e)) }
-{
-    check_fields_of(file, BodyKind::Heading)?;
-    check_fields_of(file, BodyKind::Resting)?;
-    check_fields_of(file, BodyKind::Events)?;
-    check_fields_of(file, BodyKind::Note)
+    /// Refuses a file with a body of a wrong length, by the first such body.
+    pub(crate) fn check_lengths(self) -> Result<(), Refusal>
+        ensures { MatchResult result (λ _. first_of (wrong_length self.entry.listed.bytes.now) ≡ None) (λ e. first_of (wrong_length self.entry.listed.bytes.now) ≡ Some (cause e)) }
+    {
+        self.check_length(BodyKind::Heading)?;
+        self.check_length(BodyKind::Resting)?;
+        self.check_length(BodyKind::Events)?;
+        self.check_length(BodyKind::Note)
+    }
+
+    /// Refuses a file with a field outside its values, by the first such byte.
+    pub(crate) fn check_fields(self) -> Result<(), Refusal>
+        requires { first_of (wrong_length self.listed.bytes.now) ≡ None }
+        ensures { MatchResult result (λ _. first_of (wrong_field self.entry.listed.bytes.now) ≡ None) (λ e. first_of (wrong_field self.entry.listed.bytes.now) ≡ Some (cause e)) }
+    {
+        self.check_fields_of(BodyKind::Heading)?;
+        self.check_fields_of(BodyKind::Resting)?;
+        self.check_fields_of(BodyKind::Events)?;
+        self.check_fields_of(BodyKind::Note)
+    }
 }

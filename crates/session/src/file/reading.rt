@@ -5,11 +5,10 @@ ghost use Rattle.market.specs.Causes.{cause};
 ghost use Rattle.session.specs.Faults.{fault};
 ghost use Rattle.session.specs.Contents.{body};
 ghost use Rattle.session.specs.Handed.{bytes_of, kind_of};
-ghost use Rattle.session.specs.Reading.{Reads, holds};
+ghost use Rattle.session.specs.Reading.{Accepts, Reads, holds};
 
 use super::SessionFile;
-use crate::body::contents::{check_contents, is_present};
-use crate::body::layers::{body_of, check_fields, check_lengths};
+use crate::body::contents::{LaidFile, ListedFile, check_contents};
 use crate::body::{Body, BodyKind};
 use crate::events::FiledEvents;
 use crate::field::four_at;
@@ -17,63 +16,35 @@ use crate::heading::Heading;
 use crate::record::{EVENT_SIZE, ORDER_SIZE};
 use crate::resting::FiledBook;
 use market::price::Price;
+use market::ranking::RankingName;
 use market::refusal::Refusal;
 
 /// Layer by layer, so that the lowest number is given.
-fn check(file: &[u8]) -> Result<(), Refusal>
-    ensures { MatchResult result (λ _. fault file.now ≡ None) (λ e. fault file.now ≡ Some (cause e)) }
+fn check<'a>(file: &'a [u8]) -> Result<LaidFile<'a>, Refusal>
+    ensures { MatchResult result (λ laid. (laid.listed.bytes.now ≡ file.now) × (fault file.now ≡ None)) (λ e. fault file.now ≡ Some (cause e)) }
 {
-    check_contents(file)?;
-    check_lengths(file)?;
-    check_fields(file)
+    let laid = check_contents(file)?;
+    laid.check_lengths()?;
+    laid.check_fields()?;
+    Ok(laid)
 }
 
-fn refused<'a>(file: &'a [u8], refusal: Refusal) -> SessionFile<'a>
-    requires { fault file.now ≡ Some (cause refusal) }
-    ensures { Reads file.now result }
+/// The session of a file without a cause of refusal.
+fn session_of<'a>(file: LaidFile<'a>) -> SessionFile<'a>
+    requires { fault file.listed.bytes.now ≡ None }
+    ensures { Accepts file.entry.listed.bytes.now result }
 {
-    let none = &file[0..0];
+    let heading = file.body(BodyKind::Heading).bytes();
+    let resting = file.body(BodyKind::Resting).bytes();
+    let events = file.body(BodyKind::Events).bytes();
     SessionFile {
-        file,
-        verdict: Err(refusal),
-        resting: FiledBook {
-            records: none,
-            count: 0,
+        file: file.listed.bytes,
+        heading: Heading {
+            last_sale: Price {
+                cents: four_at(heading, 0),
+            },
+            ranking: RankingName::try_from(heading[4]).unwrap(),
         },
-        events: FiledEvents {
-            records: none,
-            count: 0,
-        },
-        note: none,
-    }
-}
-
-/// The bytes of a body of an accepted file.
-fn part<'a>(file: &'a [u8], kind: BodyKind) -> &'a [u8]
-    requires { fault file.now ≡ None }
-    ensures { result.now ≡ body file.now kind }
-{
-    match body_of(file, kind) {
-        Body::Heading(bytes) | Body::Resting(bytes) | Body::Events(bytes) | Body::Note(bytes) =>
-            bytes,
-    }
-}
-
-fn accepted<'a>(file: &'a [u8]) -> SessionFile<'a>
-    requires { fault file.now ≡ None }
-    ensures { Reads file.now result }
-{
-    let heading = part(file, BodyKind::Heading);
-    let resting = part(file, BodyKind::Resting);
-    let events = part(file, BodyKind::Events);
-    let note = part(file, BodyKind::Note);
-    let last_sale = Price {
-        cents: four_at(heading, 0),
-    };
-    let ranking = heading[4];
-    SessionFile {
-        file,
-        verdict: Ok(Heading { last_sale, ranking }),
         resting: FiledBook {
             records: resting,
             count: resting.len() / ORDER_SIZE,
@@ -82,28 +53,27 @@ fn accepted<'a>(file: &'a [u8]) -> SessionFile<'a>
             records: events,
             count: events.len() / EVENT_SIZE,
         },
-        note,
+        note: file.body(BodyKind::Note).bytes(),
     }
 }
 
 /// Reads a session file whole, or refuses it by one number with the layer and the byte of the cause.
-pub fn read<'a>(file: &'a [u8]) -> SessionFile<'a>
+pub fn read<'a>(file: &'a [u8]) -> Result<SessionFile<'a>, Refusal>
     ensures { Reads file.now result }
 {
-    match check(file) {
-        Ok(()) => accepted(file),
-        Err(refusal) => refused(file, refusal),
-    }
+    let laid = check(file)?;
+    Ok(session_of(laid))
 }
 
 impl<'a> SessionFile<'a> {
-    /// A body as the part of the file that it is, told by its case; none where the file lacks it or was refused.
+    /// A body as the part of the file that it is, told by its case; none where the file lacks it.
     pub fn body(&self, kind: BodyKind) -> Option<Body<'a>>
         ensures { MatchOption result (holds self.now kind ≡ false) (λ b. (holds self.now kind ≡ true) × (kind_of b ≡ kind) × (bytes_of b ≡ body self.now.file.now kind)) }
     {
-        if self.verdict.is_err() || !is_present(self.file, kind) {
+        let listed = ListedFile { bytes: self.file };
+        if !listed.has(kind) {
             return None;
         }
-        Some(body_of(self.file, kind))
+        Some(LaidFile { listed }.body(kind))
     }
 }

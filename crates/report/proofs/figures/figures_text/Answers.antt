@@ -1,5 +1,6 @@
 -- The lines of the prices stand behind the line of what was read.
 use Rattle.std.proofs.Common.{ℕ, List, [], ◌∷◌, ◌++◌, string_bytes, codes, ap, ◌∙◌}
+use Rattle.market.specs.RankingNames.{ranking_number}
 use Rattle.report.specs.Text.{line}
 use Rattle.report.proofs.Lines.{read_then}
 use Rattle.report.proofs.figures.figures_text.Goals as goal
@@ -12,4 +13,4 @@ returns c =
     c.in_ok-push_str.ensures.bytes
     ∙ (ap (λ bs. string_bytes c.in_ok-text.text ++ bs) (c.as_str.ensures.value ∙ c.in_ok-priced.ensures)
     ∙ (ap (λ bs. bs ++ priced) c.in_ok-text.ensures
-    ∙ read_then (c.args.resting ∷ c.args.events ∷ c.args.note ∷ h.last_sale.cents ∷ h.ranking ∷ []) priced))
+    ∙ read_then (c.args.resting ∷ c.args.events ∷ c.args.note ∷ h.last_sale.cents ∷ ranking_number h.ranking ∷ []) priced))

@@ -4,6 +4,7 @@ use Rattle.std.proofs.lemmas.List.{length-map, with_items_is, take_all}
 use Rattle.session.specs.Records.{events_in}
 use Rattle.session.specs.declared.resting.FiledBook.{FiledBook}
 use Rattle.market.specs.Calls.{Timed}
+use Rattle.market.specs.RankingNames.{ranking_number}
 use Rattle.replay.specs.declared.answer.Answer.{Answer}
 use Rattle.replay.specs.declared.step.Step.{Step}
 use Rattle.replay.specs.Performing.{reply}
@@ -38,7 +39,7 @@ pub returns : goal.returns
 returns c =
     let es = events_in c.args.events.records.now in
     let steps = c.push_steps.new.steps in
-    let good = ranking_of c.args.heading.ranking in
+    let good = ranking_of (ranking_number c.args.heading.ranking) in
     let first = first_state c.args.heading.last_sale.cents c.args.list.now in
     let v = c.in_ok-given.given in
     let ws = c.replay_by.new.given in

@@ -3,16 +3,17 @@ use Rattle.std.proofs.Common.{◌+◌, ◌≤◌, sym, ◌∙◌, arith}
 use Rattle.session.specs.Faults.{largest_file}
 use Rattle.session.proofs.Acceptance.{fits_told, fitting}
 use Rattle.session.proofs.FaultPlaces.{bad_in_file}
-use Rattle.session.proofs.body.layers.check_fields_of.Goals as goal
+use Rattle.session.proofs.body.contents.LaidFile.check_fields_of.Goals as goal
 
 pub first_bad-requires : goal.first_bad-requires
 first_bad-requires c =
-    fits_told c.args.file.now c.args.kind c.body_of.result c.requires.laid c.body_of.ensures.kind c.body_of.ensures.bytes
-    ∙ fitting c.args.file.now c.args.kind c.requires.fitting
+    let file = c.args.self.listed.bytes.now in
+    fits_told file c.args.kind c.body.result c.args.self.laid c.body.ensures.kind c.body.ensures.bytes
+    ∙ fitting file c.args.kind c.requires
 
 inside : (c : goal.After-start_of) → c.start_of.result + c.in-Some.byte ≤ largest_file
 inside c =
-    let lies = bad_in_file c.args.file.now c.args.kind c.body_of.result c.in-Some.byte c.requires.laid c.requires.fitting c.body_of.ensures.kind c.body_of.ensures.bytes (sym c.in-Some.ensures) in
+    let lies = bad_in_file c.args.self.listed.bytes.now c.args.kind c.body.result c.in-Some.byte c.args.self.laid c.requires c.body.ensures.kind c.body.ensures.bytes (sym c.in-Some.ensures) in
     omega (arith, lies, c.start_of.ensures.value)
 
 pub overflow_add-result : goal.overflow_add-result
