@@ -25,10 +25,7 @@ fn ranged_count<B: Book>(book: &B, range: PriceRange) -> usize
 fn ranged_order(range: PriceRange, order: Option<Order>) -> Option<Order>
     ensures { (os : List OrderTerms) (place : ℕ) → AnswersAt os place order → AnswersAt (ranged range.lowest.cents range.highest.cents os) place result }
 {
-    match order {
-        Some(order) => Some(range.counted(order)),
-        None => None,
-    }
+    order.map(|order| range.counted(order))
 }
 
 impl<B: Book + Drop> Book for Ranged<B> {

@@ -1,4 +1,5 @@
 pub mod Causes
+pub mod CauseText
 pub mod Prices
 pub mod Orders
 pub mod Ranges

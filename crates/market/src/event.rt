@@ -7,7 +7,7 @@ use crate::quote::Quote;
 pub const LAST_TIME: u32 = 86_399_999;
 
 /// A call that an event asks for.
-#[derive(Clone, Copy)]
+#[derive(Clone, Copy, PartialEq, Eq, Debug)]
 pub enum Event {
     Enter(Order),
     Cancel { entry: u16, shares: u32 },
@@ -19,7 +19,7 @@ pub enum Event {
 }
 
 /// An event with its time, in milliseconds after midnight.
-#[derive(Clone, Copy)]
+#[derive(Clone, Copy, PartialEq, Eq, Debug)]
 pub struct TimedEvent {
     pub time: u32,
     pub event: Event,

@@ -8,7 +8,7 @@ mod collar;
 mod making;
 
 /// The prices from a lowest to a highest, both included.
-#[derive(Clone, Copy)]
+#[derive(Clone, Copy, PartialEq, Eq, Debug)]
 pub struct PriceRange {
     pub lowest: Price,
     pub highest: Price,

@@ -1,6 +1,7 @@
 //! Why a file, a value or a call is refused.
 
 mod place;
+mod telling;
 
 /// The causes of a refusal, in the order of their numbers.
 #[derive(Clone, Copy, PartialEq, Eq, Debug)]

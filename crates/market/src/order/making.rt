@@ -12,7 +12,7 @@ pub const MOST_SHARES: u32 = 1_000_000;
 pub fn lawful_shares(shares: u32) -> bool
     ensures { result ≡ lawful_shares shares }
 {
-    1 <= shares && shares <= MOST_SHARES
+    (1..=MOST_SHARES).contains(&shares)
 }
 
 impl Order {

@@ -14,7 +14,7 @@ impl Price {
     pub fn new(cents: u32) -> Result<Price, Refusal>
         ensures { MatchResult result (λ p. p.cents ≡ cents) (λ e. (cause e ≡ at 5 0 0) × (LawfulPrice cents → ⊥)) }
     {
-        if cents < Self::LOWEST || cents > Self::HIGHEST {
+        if !(Self::LOWEST..=Self::HIGHEST).contains(&cents) {
             return Err(Refusal::Value);
         }
         Ok(Price { cents })

@@ -15,20 +15,12 @@ impl Quote {
         ensures lowest { result.lowest.cents ≡ reference_lowest (cents_of self.bid) (cents_of self.offer) last_sale.cents }
         ensures highest { result.highest.cents ≡ reference_highest (cents_of self.bid) (cents_of self.offer) last_sale.cents }
     {
-        let last = PriceRange {
-            lowest: last_sale,
-            highest: last_sale,
-        };
-        let Some(lowest) = self.bid else {
-            return last;
-        };
-        let Some(highest) = self.offer else {
-            return last;
-        };
-        if lowest.cents > highest.cents {
-            return last;
+        match (self.bid, self.offer) {
+            (Some(lowest), Some(highest)) if lowest.cents <= highest.cents => {
+                PriceRange { lowest, highest }
+            }
+            _ => PriceRange::from(last_sale),
         }
-        PriceRange { lowest, highest }
     }
 }
 
