@@ -1,7 +1,7 @@
 //! Hex digits.
 
 ghost use Rattle.std.specs.Prelude.{◌≡◌, ℕ, ◌/◌, ◌%◌, ◌<◌, MatchOption, ◌≢◌};
-ghost use Rattle.case_bytes.specs.Digits.{byte_of, digit_of, hex};
+ghost use Rattle.cases.specs.Digits.{byte_of, digit_of, hex};
 
 /// The value of a hex digit.
 fn digit(code: u8) -> Option<u8>

@@ -3,8 +3,8 @@ use Rattle.std.proofs.Common.{◌≡◌, ℕ, suc, ◌/◌, ◌%◌, ◌≤◌, 
 use Rattle.std.specs.Option.{option_and_then}
 use Rattle.std.proofs.lemmas.Bool.Decides.{nat_tests}
 use Rattle.std.specs.Simd.{first_chunks}
-use Rattle.case_bytes.specs.Digits.{byte_of}
-use Rattle.case_bytes.specs.Runs.{most_bytes, with_byte, with_pairs}
+use Rattle.cases.specs.Digits.{byte_of}
+use Rattle.cases.specs.Runs.{most_bytes, with_byte, with_pairs}
 
 -- what reads nothing further gives nothing
 pub never : {A B : Type 0} (f : A → Option B) (o : Option A) → ((x : A) → f x ≡ None) → option_and_then f o ≡ None

@@ -1,4 +1,6 @@
-//! The bytes of a case, as the tables of cases have them.
+//! The lines of the tables of cases, and the bytes of a case.
+//!
+//! A line is a name, a space and what is asked.
 //!
 //! BYTES are runs, with ';' between them: a run is pairs of hex digits in lower case, one pair to a byte, and stands
 //! as often as the number after a '*' says, once if there is none. So `0102;00*3;0a0b*2` is the file of the bytes
@@ -6,8 +8,9 @@
 
 #![tactic(auto)]
 
-ghost use Rattle.std.specs.Prelude.{◌≡◌, None, Some, IfOk, IfErr, MatchOption, OnOk};
-ghost use Rattle.case_bytes.specs.Runs.{digits_of, spelled, times_of, with_pairs, with_run};
+ghost use Rattle.std.specs.Prelude.{◌≡◌, None, Some, IfOk, IfErr, MatchOption, OnOk, option_copied};
+ghost use Rattle.cases.specs.Lines.{name_of, text_of};
+ghost use Rattle.cases.specs.Runs.{digits_of, spelled, times_of, with_pairs, with_run};
 
 use crate::hex::pair;
 use crate::unread::Unread;
@@ -69,6 +72,17 @@ pub fn bytes_of(heap: Global, text: &str) -> Result<Vec<u8>, Unread>
         append_run(&mut bytes, run)?;
     }
     Ok(bytes)
+}
+
+/// The name of a line, and the text of what is asked; none where the line has no space.
+pub fn case_of(line: &str) -> (&str, Option<&str>)
+    ensures name { result.0.now ≡ name_of line.now }
+    ensures text { option_copied result.1 ≡ text_of line.now }
+{
+    match line.split_once(' ') {
+        Some((name, text)) => (name, Some(text)),
+        None => (line, None),
+    }
 }
 
 #[cfg(test)]

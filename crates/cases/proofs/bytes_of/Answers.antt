@@ -5,9 +5,9 @@ use Rattle.std.proofs.lemmas.Iterator.Splits.{YieldsList-from_str_split}
 use Rattle.std.proofs.lemmas.List.{at_drop_all, length_push}
 use Rattle.std.proofs.lemmas.Result.{err_from_is_err_and}
 use Rattle.std.specs.List.{slice_split}
-use Rattle.case_bytes.specs.Runs.{with_runs}
-use Rattle.case_bytes.proofs.Runs.{run_more}
-use Rattle.case_bytes.proofs.bytes_of.Goals as goal
+use Rattle.cases.specs.Runs.{with_runs}
+use Rattle.cases.proofs.Runs.{run_more}
+use Rattle.cases.proofs.bytes_of.Goals as goal
 
 pub loop-run-preserved : goal.loop-run-preserved
 loop-run-preserved c =

@@ -4,7 +4,7 @@ use Rattle.std.specs.Option.{option_and_then}
 use Rattle.std.specs.List.{after_first, before_first, position_or_len, slice_split}
 use Rattle.std.specs.Str.{all_ascii_digits}
 use Rattle.std.specs.Str.Parse.{digits_value, without_leading_plus}
-use Rattle.case_bytes.specs.Digits.{byte_of}
+use Rattle.cases.specs.Digits.{byte_of}
 
 -- the most bytes that a case may have
 abbrev pub most_bytes : ℕ

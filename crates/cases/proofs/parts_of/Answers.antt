@@ -2,8 +2,8 @@
 use Rattle.std.proofs.Common.{sym, ◌∙◌, arith}
 use Rattle.std.proofs.lemmas.Option.{MatchOption-at_some}
 use Rattle.std.proofs.lemmas.Str.Pattern.{split_once_first}
-use Rattle.case_bytes.proofs.Numerals.{numeral_read, told}
-use Rattle.case_bytes.proofs.parts_of.Goals as goal
+use Rattle.cases.proofs.Numerals.{numeral_read, told}
+use Rattle.cases.proofs.parts_of.Goals as goal
 
 pub returns-in_err-ok : goal.returns-in_err-ok
 returns-in_err-ok c =

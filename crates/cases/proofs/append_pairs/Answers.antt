@@ -2,9 +2,9 @@
 use Rattle.std.proofs.Common.{◌≡◌, ℕ, ◌+◌, ◌/◌, ◌%◌, ◌≤◌, List, [], length, get_or, drop, None, sym, ap, ◌∙◌, arith}
 use Rattle.std.proofs.lemmas.List.{at_drop_all, at_drop_more}
 use Rattle.std.specs.Simd.{first_chunks}
-use Rattle.case_bytes.specs.Runs.{with_pairs}
-use Rattle.case_bytes.proofs.Pairs.{cut, full, no_digits, odd_digits, whatever, with_cut}
-use Rattle.case_bytes.proofs.append_pairs.Goals as goal
+use Rattle.cases.specs.Runs.{with_pairs}
+use Rattle.cases.proofs.Pairs.{cut, full, no_digits, odd_digits, whatever, with_cut}
+use Rattle.cases.proofs.append_pairs.Goals as goal
 
 -- the digits that are cut, whole and from a place on
 reads : (digits : List ℕ) (pairs : List (List ℕ)) (bs cs : List ℕ) (i : ℕ) → length digits % 2 ≡ 0

@@ -2,7 +2,7 @@
 use Rattle.std.proofs.Common.{◌≡◌, ℕ, suc, ◌+◌, ◌-◌, ◌<◌, ◌≤◌, List, length, get_or, drop, Option, Some, sym, ap, ◌∙◌, arith}
 use Rattle.std.specs.Option.{option_and_then}
 use Rattle.std.proofs.lemmas.List.{at_drop_more}
-use Rattle.case_bytes.specs.Runs.{digits_of, times_of, with_copies, with_pairs, with_run, with_runs}
+use Rattle.cases.specs.Runs.{digits_of, times_of, with_copies, with_pairs, with_run, with_runs}
 
 -- the digits of a run, so often
 pub run_is : (run bs digits : List ℕ) (times : ℕ) → digits ≡ digits_of run → times_of run ≡ Some times → with_run run bs ≡ with_copies times digits bs

@@ -1,7 +1,7 @@
 //! Why the bytes of a case are not read.
 
 ghost use Rattle.std.specs.Prelude.{◌≡◌};
-ghost use Rattle.case_bytes.specs.declared.unread.Unread.TheVariants.{OutOfMemory};
+ghost use Rattle.cases.specs.declared.unread.Unread.TheVariants.{OutOfMemory};
 
 use std::alloc::AllocFailed;
 

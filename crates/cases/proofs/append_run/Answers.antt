@@ -2,8 +2,8 @@
 use Rattle.std.proofs.Common.{sym, ◌∙◌}
 use Rattle.std.proofs.lemmas.Option.{MatchOption-at_some}
 use Rattle.std.proofs.lemmas.Result.{err_from_is_err_and}
-use Rattle.case_bytes.proofs.Runs.{copies_all, copy_more, run_is}
-use Rattle.case_bytes.proofs.append_run.Goals as goal
+use Rattle.cases.proofs.Runs.{copies_all, copy_more, run_is}
+use Rattle.cases.proofs.append_run.Goals as goal
 
 pub returns-in_err-append_pairs-clause-err : goal.returns-in_err-append_pairs-clause-err
 returns-in_err-append_pairs-clause-err c =
