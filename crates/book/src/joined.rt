@@ -15,36 +15,27 @@ pub struct Joined<A, B> {
     pub second: B,
 }
 
-fn joined_count(first: usize, second: usize) -> usize
-    ensures { (xs ys : List OrderTerms) → first ≡ length xs → second ≡ length ys → result ≡ length (joined xs ys) }
-{
-    first.saturating_add(second).min(MOST_ORDERS)
-}
-
-fn joined_order<A: Book, B: Book>(first: &A, second: &B, place: usize) -> Option<Order>
-    ensures { AnswersAt (joined (A.Book.orders first.now) (B.Book.orders second.now)) place result }
-{
-    if place >= MOST_ORDERS {
-        return None;
-    }
-    let before = first.count();
-    if place < before {
-        first.order(place)
-    } else {
-        second.order(place - before)
-    }
-}
-
 impl<A: Book + Drop, B: Book + Drop> Book for Joined<A, B> {
     ghost orders = { λ j. joined (A.Book.orders j.first) (B.Book.orders j.second) };
 
     ghost short = { λ j. joined_short (A.Book.orders j.first) (B.Book.orders j.second) };
 
     fn count(&self) -> usize {
-        joined_count(self.first.count(), self.second.count())
+        self.first
+            .count()
+            .saturating_add(self.second.count())
+            .min(MOST_ORDERS)
     }
 
     fn order(&self, place: usize) -> Option<Order> {
-        joined_order(&self.first, &self.second, place)
+        if place >= MOST_ORDERS {
+            return None;
+        }
+        let before = self.first.count();
+        if place < before {
+            self.first.order(place)
+        } else {
+            self.second.order(place - before)
+        }
     }
 }

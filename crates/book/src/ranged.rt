@@ -16,28 +16,18 @@ pub struct Ranged<B> {
     pub range: PriceRange,
 }
 
-fn ranged_count<B: Book>(book: &B, range: PriceRange) -> usize
-    ensures { result ≡ length (ranged range.lowest.cents range.highest.cents (B.Book.orders book.now)) }
-{
-    book.count()
-}
-
-fn ranged_order(range: PriceRange, order: Option<Order>) -> Option<Order>
-    ensures { (os : List OrderTerms) (place : ℕ) → AnswersAt os place order → AnswersAt (ranged range.lowest.cents range.highest.cents os) place result }
-{
-    order.map(|order| range.counted(order))
-}
-
 impl<B: Book + Drop> Book for Ranged<B> {
     ghost orders = { λ r. ranged r.range.lowest.cents r.range.highest.cents (B.Book.orders r.book) };
 
     ghost short = { λ r. ranged_short r.range.lowest.cents r.range.highest.cents (B.Book.orders r.book) (B.Book.short r.book) };
 
     fn count(&self) -> usize {
-        ranged_count(&self.book, self.range)
+        self.book.count()
     }
 
     fn order(&self, place: usize) -> Option<Order> {
-        ranged_order(self.range, self.book.order(place))
+        self.book
+            .order(place)
+            .map(|order| self.range.counted(order))
     }
 }

@@ -1,11 +1,10 @@
--- What the books below answer is what the books over them answer, place by place.
+-- What two books answer for their own places is what their join answers.
 use Rattle.std.proofs.Common.{◌≡◌, ℕ, ◌+◌, ◌-◌, ◌<◌, ◌≤◌, min, List, ◌++◌, length, Some, None, Option, sym, ap, ◌∙◌, arith}
-use Rattle.std.proofs.lemmas.List.{get_or_append_left, get_or-append_right, get_or-map, get_or-take, length-append, length-map, length-take}
+use Rattle.std.proofs.lemmas.List.{get_or_append_left, get_or-append_right, get_or-take, length-append, length-take}
 use Rattle.market.specs.declared.order.OrderTerms.{OrderTerms}
 use Rattle.market.specs.declared.order.sound.Order.{Order}
-use Rattle.market.specs.Ranges.{counted}
 use Rattle.book.specs.Answers.{AnswersAt}
-use Rattle.book.specs.Lists.{joined, most_orders, ranged}
+use Rattle.book.specs.Lists.{joined, most_orders}
 
 pub length_joined : (xs ys : List OrderTerms) → length (joined xs ys) ≡ min most_orders (length xs + length ys)
 length_joined xs ys = length-take most_orders (xs ++ ys) ∙ ap (min most_orders) (length-append xs ys)
@@ -26,14 +25,3 @@ joined_second xs ys n k (Some o) h e l a = (
   omega (arith, length_joined xs ys, a.0),
   a.1 ∙ (sym (get_or-append_right xs ys n k o.terms e l) ∙ sym (get_or-take most_orders (xs ++ ys) k o.terms h)),
 )
-
--- an order of the book below, counted
-pub ranged_some : (lo hi : ℕ) (os : List OrderTerms) (k : ℕ) (o c : Order) → c.terms ≡ counted lo hi o.terms → AnswersAt os k (Some o)
-    → AnswersAt (ranged lo hi os) k (Some c)
-ranged_some lo hi os k o c e a = (
-  omega (arith, length-map os (counted lo hi), a.0),
-  e ∙ (ap (counted lo hi) a.1 ∙ sym (get_or-map (counted lo hi) os k o.terms c.terms a.0)),
-)
-
-pub ranged_none : (lo hi : ℕ) (os : List OrderTerms) (k : ℕ) → length os ≤ k → length (ranged lo hi os) ≤ k
-ranged_none lo hi os k h = omega (arith, length-map os (counted lo hi))
