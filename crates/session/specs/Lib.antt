@@ -3,6 +3,7 @@ pub mod Events
 pub mod Records
 pub mod Contents
 pub mod Handed
+pub mod EventKinds
 pub mod Faults
 pub mod FirstCauses
 pub mod Layout

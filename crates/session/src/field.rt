@@ -2,14 +2,14 @@
 
 mod reading;
 
-pub(crate) use reading::{first_bad_field, four_at, two_at};
+pub(crate) use reading::{first_bad_field, four_at, side_of, two_at};
 
 /// How many bytes a number has, the most significant first.
 #[derive(Clone, Copy)]
 pub(crate) enum Width {
-    One,
-    Two,
-    Four,
+    One = 1,
+    Two = 2,
+    Four = 4,
 }
 
 /// The values that a field may hold.

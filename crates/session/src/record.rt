@@ -1,6 +1,7 @@
 //! The records of the bodies: their fields, and the first field that is outside its values.
 
 pub(crate) mod fields;
+pub(crate) mod kind;
 pub(crate) mod walk;
 
 /// How many bytes a heading has.

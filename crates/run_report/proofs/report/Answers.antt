@@ -1,7 +1,7 @@
 -- What the reader promises of the file is what the text says.
-use Rattle.std.proofs.lemmas.Result.{MatchResult-at_err, MatchResult-at_ok, IfOk-weaker}
+use Rattle.std.proofs.lemmas.Result.{IfOk-weaker}
 use Rattle.market.specs.Causes.{cause}
-use Rattle.session.specs.Reading.{Accepts, Refuses, handed}
+use Rattle.session.specs.Reading.{handed}
 use Rattle.run_report.specs.Text.{accepted, refused}
 use Rattle.run_report.proofs.report.Goals as goal
 

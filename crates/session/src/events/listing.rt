@@ -10,10 +10,11 @@ ghost use Rattle.session.specs.Faults.{fields_of_event};
 ghost use Rattle.session.specs.Records.{entered, event_at, events_in};
 
 use super::FiledEvents;
-use crate::field::{four_at, two_at};
+use crate::field::{four_at, side_of, two_at};
 use crate::record::EVENT_SIZE;
+use crate::record::kind::EventKind;
 use market::event::{Event, TimedEvent};
-use market::order::{Order, OrderPrice, OrderTerms, Side};
+use market::order::{Order, OrderPrice, OrderTerms};
 use market::price::Price;
 use market::quote::Quote;
 
@@ -29,18 +30,13 @@ fn filed_price(cents: u32) -> Option<Price>
 fn entered_terms(flags: u8, entry: u16, limit: u32, shares: u32) -> OrderTerms
     ensures { result ≡ entered flags entry limit shares }
 {
-    let side = if flags & 1 != 0 {
-        Side::Sell
-    } else {
-        Side::Buy
-    };
     let price = if flags & 2 != 0 {
         OrderPrice::Market
     } else {
         OrderPrice::Limit(limit)
     };
     OrderTerms {
-        side,
+        side: side_of(flags & 1 != 0),
         price,
         shares,
         entry,
@@ -58,23 +54,23 @@ fn event_at(bytes: &[u8], at: usize) -> TimedEvent
     let number = two_at(bytes, at + 6);
     let first = four_at(bytes, at + 8);
     let second = four_at(bytes, at + 12);
-    let event = match bytes[at + 4] {
-        1 => {
+    let event = match EventKind::try_from(u32::from(bytes[at + 4])).unwrap() {
+        EventKind::Enter => {
             let terms = entered_terms(bytes[at + 5], number, first, second);
             Event::Enter(Order { terms })
         }
-        2 => Event::Cancel {
+        EventKind::Cancel => Event::Cancel {
             entry: number,
             shares: second,
         },
-        3 => Event::Quote(Quote {
+        EventKind::Quote => Event::Quote(Quote {
             bid: filed_price(first),
             offer: filed_price(second),
         }),
-        4 => Event::Publish,
-        5 => Event::Lock,
-        6 => Event::Shut,
-        _ => Event::Cross,
+        EventKind::Publish => Event::Publish,
+        EventKind::Lock => Event::Lock,
+        EventKind::Shut => Event::Shut,
+        EventKind::Cross => Event::Cross,
     };
     TimedEvent {
         time: four_at(bytes, at),

@@ -1,22 +1,21 @@
 //! Numbers read from bytes, and held to the values of their fields.
 
-ghost use Rattle.std.specs.Prelude.{◌≡◌, ◌+◌, ◌≤◌, length};
+ghost use Rattle.std.specs.Prelude.{◌≡◌, ◌+◌, ◌≤◌, cond, length};
+ghost use Rattle.market.specs.declared.order.Side.TheVariants.{Buy, Sell};
 ghost use Rattle.session.specs.Fields.{admits, first_bad, four, size, span, two, value};
 
 use super::{Field, Values, Width};
+use crate::record::kind::EventKind;
 use market::event::LAST_TIME;
-use market::order::lawful_shares;
+use market::order::{Side, lawful_shares};
 use market::price::Price;
+use market::ranking::RankingName;
 
 impl Width {
     fn size(self) -> usize
         ensures { result ≡ size self }
     {
-        match self {
-            Width::One => 1,
-            Width::Two => 2,
-            Width::Four => 4,
-        }
+        self as usize
     }
 }
 
@@ -25,7 +24,7 @@ pub(crate) fn two_at(bytes: &[u8], at: usize) -> u16
     requires { at + 2 ≤ length bytes.now }
     ensures { result ≡ two bytes.now at }
 {
-    bytes[at] as u16 * 256 + bytes[at + 1] as u16
+    u16::from_be_bytes([bytes[at], bytes[at + 1]])
 }
 
 /// The number of four bytes at a place.
@@ -33,8 +32,7 @@ pub(crate) fn four_at(bytes: &[u8], at: usize) -> u32
     requires { at + 4 ≤ length bytes.now }
     ensures { result ≡ four bytes.now at }
 {
-    ((bytes[at] as u32 * 256 + bytes[at + 1] as u32) * 256 + bytes[at + 2] as u32) * 256
-        + bytes[at + 3] as u32
+    u32::from_be_bytes([bytes[at], bytes[at + 1], bytes[at + 2], bytes[at + 3]])
 }
 
 fn value_at(bytes: &[u8], at: usize, width: Width) -> u32
@@ -48,6 +46,13 @@ fn value_at(bytes: &[u8], at: usize, width: Width) -> u32
     }
 }
 
+/// The side that a mark names.
+pub(crate) fn side_of(sells: bool) -> Side
+    ensures { result ≡ cond sells Sell Buy }
+{
+    if sells { Side::Sell } else { Side::Buy }
+}
+
 impl Values {
     fn admit(self, n: u32) -> bool
         ensures { result ≡ admits self n }
@@ -55,13 +60,13 @@ impl Values {
         match self {
             Values::Zero => n == 0,
             Values::Mark => n <= 1,
-            Values::Ranking => n == 1 || n == 2,
+            Values::Ranking => n == RankingName::Display as u32 || n == RankingName::Shares as u32,
             Values::EntryNumber => n >= 1,
             Values::Cents => Price::new(n).is_ok(),
             Values::CentsOrNone => n == 0 || Price::new(n).is_ok(),
             Values::Shares => lawful_shares(n),
             Values::TimeOfDay => n <= LAST_TIME,
-            Values::EventKind => 1 <= n && n <= 7,
+            Values::EventKind => EventKind::try_from(n).is_ok(),
             Values::EnterFlags => n <= 15 && !(n & 2 != 0 && n & 4 != 0),
         }
     }

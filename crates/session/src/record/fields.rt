@@ -3,6 +3,7 @@
 ghost use Rattle.std.specs.Prelude.{◌≡◌};
 ghost use Rattle.session.specs.Records.{event_fields, heading_fields, order_fields};
 
+use super::kind::EventKind;
 use crate::field::{Field, Values, Width};
 
 const fn field(width: Width, values: Values) -> Field
@@ -40,26 +41,26 @@ pub(crate) fn order_fields() -> [Field; 5]
 pub(crate) fn event_fields(kind: u8, flags: u8) -> [Field; 6]
     ensures { result ≡ event_fields kind flags }
 {
-    let (flag_values, number, first, second) = match kind {
-        1 if flags & 2 != 0 => (
+    let (flag_values, number, first, second) = match EventKind::try_from(u32::from(kind)) {
+        Ok(EventKind::Enter) if flags & 2 != 0 => (
             Values::EnterFlags,
             Values::EntryNumber,
             Values::Zero,
             Values::Shares,
         ),
-        1 => (
+        Ok(EventKind::Enter) => (
             Values::EnterFlags,
             Values::EntryNumber,
             Values::Cents,
             Values::Shares,
         ),
-        2 => (
+        Ok(EventKind::Cancel) => (
             Values::Zero,
             Values::EntryNumber,
             Values::Zero,
             Values::Shares,
         ),
-        3 => (
+        Ok(EventKind::Quote) => (
             Values::Zero,
             Values::Zero,
             Values::CentsOrNone,

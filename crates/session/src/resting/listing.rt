@@ -6,10 +6,10 @@ ghost use Rattle.session.specs.Filed.{filed_short};
 ghost use Rattle.session.specs.Records.{order_at, order_fields, orders_in};
 
 use super::FiledBook;
-use crate::field::{four_at, two_at};
+use crate::field::{four_at, side_of, two_at};
 use crate::record::ORDER_SIZE;
 use book::Book;
-use market::order::{Order, OrderPrice, OrderTerms, Side};
+use market::order::{Order, OrderPrice, OrderTerms};
 
 /// The order whose record begins at a byte; resting orders stay.
 fn order_at(bytes: &[u8], at: usize) -> Order
@@ -17,13 +17,8 @@ fn order_at(bytes: &[u8], at: usize) -> Order
     requires clean { first_bad order_fields bytes.now at ≡ None }
     ensures { result.terms ≡ order_at bytes.now at }
 {
-    let side = if bytes[at] == 0 {
-        Side::Buy
-    } else {
-        Side::Sell
-    };
     let terms = OrderTerms {
-        side,
+        side: side_of(bytes[at] != 0),
         price: OrderPrice::Limit(four_at(bytes, at + 4)),
         shares: four_at(bytes, at + 8),
         entry: two_at(bytes, at + 2),
