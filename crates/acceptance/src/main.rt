@@ -47,25 +47,37 @@ mod pricing;
 mod shown;
 mod table;
 
-use crate::table::Asked;
+use crate::answer::Contents;
+use crate::table::{Asked, asked_of};
+use cases::case_of;
+use market::refusal::Refusal;
+use session::file::read;
+use std::fmt::Display;
 use std::io;
 use std::io::{BufRead, BufReader};
 
+/// Prints an answer, or the line of a refusal.
+fn print<A: Display + Drop>(
+    rt: &HostRuntime,
+    name: &str,
+    answer: Result<A, Refusal>,
+) -> io::Result<()> {
+    match answer {
+        Ok(answer) => println!(rt; "{name} {answer}"),
+        Err(refusal) => println!(rt; "{name} refused,{refusal}"),
+    }
+}
+
 /// Prints what one line of the table comes to.
 fn judge(rt: &HostRuntime, line: &str) -> io::Result<()> {
-    let case = table::case_of(rt.alloc(), line);
-    let name = case.name;
-    match &case.asked {
-        Some(Asked::Read(file)) => answer::print(rt, name, file.as_slice()),
-        Some(Asked::Price(bounds, file)) => pricing::print(rt, name, *bounds, file.as_slice()),
-        Some(Asked::Joined(bounds, first, second)) => pricing::print_joined(
-            rt,
-            name,
-            *bounds,
-            first.as_slice(),
-            second.as_slice(),
-        ),
-        Some(Asked::Collar(quoted)) => pricing::print_collar(rt, name, *quoted),
+    let (name, text) = case_of(line);
+    match text.and_then(|text| asked_of(rt.alloc(), text)) {
+        Some(Asked::Read(file)) => print(rt, name, read(&file).map(Contents)),
+        Some(Asked::Price(bounds, file)) => print(rt, name, pricing::priced(bounds, &file)),
+        Some(Asked::Joined(bounds, first, second)) => {
+            print(rt, name, pricing::priced_joined(bounds, &first, &second))
+        }
+        Some(Asked::Collar(quoted)) => print(rt, name, pricing::ranges_of(quoted)),
         None => println!(rt; "{name} unreadable"),
     }
 }

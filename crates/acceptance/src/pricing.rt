@@ -1,10 +1,9 @@
-//! What is printed for a book that is priced, and for a quote.
+//! What is answered for a book that is priced, and for a quote.
 
 ghost use Rattle.std.specs.Prelude.{◌≡◌, MatchResult};
 ghost use Rattle.market.specs.Causes.{at, cause};
 ghost use Rattle.market.specs.Ranges.{cents_of, reference_highest, reference_lowest};
 
-use crate::answer::print_refusal;
 use crate::table::{Bounds, Quoted};
 use book::Book;
 use book::joined::Joined;
@@ -15,59 +14,68 @@ use market::quote::Quote;
 use market::range::PriceRange;
 use market::refusal::Refusal;
 use session::file::read;
-use std::io;
+use std::fmt;
 
-/// The range between two numbers of cents.
-fn range_of(low: u32, high: u32) -> Result<PriceRange, Refusal>
-    ensures { MatchResult result (λ p. (p.lowest.cents ≡ low) × (p.highest.cents ≡ high)) (λ e. cause e ≡ at 5 0 0) }
-{
-    PriceRange::new(Price::new(low)?, Price::new(high)?)
+/// Where a book clears: `clears,PRICE,EXECUTED,IMBALANCE`.
+#[derive(Clone, Copy)]
+pub(crate) struct Clearing {
+    price: Price,
+    depth: Depth,
 }
 
-/// The line for a book in a range.
-fn print_clearing<B: Book>(
-    rt: &HostRuntime,
-    name: &str,
-    bounds: Bounds,
-    book: &B,
-) -> io::Result<()> {
-    let range = match range_of(bounds.low, bounds.high) {
-        Ok(range) => range,
-        Err(refusal) => return print_refusal(rt, name, refusal),
-    };
-    let price = clearing_price(book, range, bounds.twice);
-    let depth = Depth::of(book, range, price);
-    let cents = price.cents;
-    let executed = depth.executed();
-    let imbalance = depth.imbalance();
-    println!(rt; "{name} clears,{cents},{executed},{imbalance}")
-}
-
-/// Prices the resting orders of a file.
-pub(crate) fn print(rt: &HostRuntime, name: &str, bounds: Bounds, file: &[u8]) -> io::Result<()> {
-    match read(file) {
-        Ok(session) => print_clearing(rt, name, bounds, &session.resting),
-        Err(refusal) => print_refusal(rt, name, refusal),
+impl fmt::Display for Clearing {
+    fn fmt<W: fmt::Write>(&self, f: &mut fmt::Formatter<W>) -> fmt::Result {
+        let cents = self.price.cents;
+        let executed = self.depth.executed();
+        let imbalance = self.depth.imbalance();
+        write!(f, "clears,{cents},{executed},{imbalance}")
     }
 }
 
+impl Bounds {
+    /// The range between the two numbers of cents.
+    fn range(self) -> Result<PriceRange, Refusal>
+        ensures { MatchResult result (λ p. (p.lowest.cents ≡ self.low) × (p.highest.cents ≡ self.high)) (λ e. cause e ≡ at 5 0 0) }
+    {
+        PriceRange::new(Price::new(self.low)?, Price::new(self.high)?)
+    }
+}
+
+fn clearing_of<B: Book>(bounds: Bounds, book: &B) -> Result<Clearing, Refusal> {
+    let range = bounds.range()?;
+    let price = clearing_price(book, range, bounds.twice);
+    let depth = Depth::of(book, range, price);
+    Ok(Clearing { price, depth })
+}
+
+/// Prices the resting orders of a file.
+pub(crate) fn priced(bounds: Bounds, file: &[u8]) -> Result<Clearing, Refusal> {
+    clearing_of(bounds, &read(file)?.resting)
+}
+
 /// Prices the resting orders of two files, one after the other.
-pub(crate) fn print_joined(
-    rt: &HostRuntime,
-    name: &str,
+pub(crate) fn priced_joined(
     bounds: Bounds,
     first: &[u8],
     second: &[u8],
-) -> io::Result<()> {
-    match (read(first), read(second)) {
-        (Ok(first), Ok(second)) => {
-            let joined = Joined {
-                first: first.resting,
-                second: second.resting,
-            };
-            print_clearing(rt, name, bounds, &joined)
-        }
-        (Err(refusal), _) | (_, Err(refusal)) => print_refusal(rt, name, refusal),
+) -> Result<Clearing, Refusal> {
+    let first = read(first)?.resting;
+    let second = read(second)?.resting;
+    clearing_of(bounds, &Joined { first, second })
+}
+
+/// The reference range of a quote, and its collar: `collar,REFLOW,REFHIGH,TWICE,LOW,HIGH`.
+#[derive(Clone, Copy)]
+pub(crate) struct Collared(PriceRange);
+
+impl fmt::Display for Collared {
+    fn fmt<W: fmt::Write>(&self, f: &mut fmt::Formatter<W>) -> fmt::Result {
+        let reference = self.0;
+        let (lowest, highest) = (reference.lowest.cents, reference.highest.cents);
+        let twice = reference.twice_middle();
+        let collar = reference.collar();
+        let (low, high) = (collar.lowest.cents, collar.highest.cents);
+        write!(f, "collar,{lowest},{highest},{twice},{low},{high}")
     }
 }
 
@@ -75,33 +83,25 @@ pub(crate) fn print_joined(
 fn side_of(cents: u32) -> Result<Option<Price>, Refusal>
     ensures { MatchResult result (λ p. cents_of p ≡ cents) (λ e. cause e ≡ at 5 0 0) }
 {
-    if cents == 0 {
-        return Ok(None);
+    match cents {
+        0 => Ok(None),
+        _ => Ok(Some(Price::new(cents)?)),
     }
-    Ok(Some(Price::new(cents)?))
 }
 
-/// The reference range of a quote and a last sale.
-fn reference_of(quoted: Quoted) -> Result<PriceRange, Refusal>
-    ensures { MatchResult result (λ p. (p.lowest.cents ≡ reference_lowest quoted.bid quoted.offer quoted.last_sale) × (p.highest.cents ≡ reference_highest quoted.bid quoted.offer quoted.last_sale)) (λ e. cause e ≡ at 5 0 0) }
-{
-    let bid = side_of(quoted.bid)?;
-    let offer = side_of(quoted.offer)?;
-    let last_sale = Price::new(quoted.last_sale)?;
-    Ok(Quote { bid, offer }.reference_range(last_sale))
+impl Quoted {
+    /// The reference range of the quote and the last sale.
+    fn reference(self) -> Result<PriceRange, Refusal>
+        ensures { MatchResult result (λ p. (p.lowest.cents ≡ reference_lowest self.bid self.offer self.last_sale) × (p.highest.cents ≡ reference_highest self.bid self.offer self.last_sale)) (λ e. cause e ≡ at 5 0 0) }
+    {
+        let bid = side_of(self.bid)?;
+        let offer = side_of(self.offer)?;
+        let last_sale = Price::new(self.last_sale)?;
+        Ok(Quote { bid, offer }.reference_range(last_sale))
+    }
 }
 
-/// The line for a quote.
-pub(crate) fn print_collar(rt: &HostRuntime, name: &str, quoted: Quoted) -> io::Result<()> {
-    let reference = match reference_of(quoted) {
-        Ok(reference) => reference,
-        Err(refusal) => return print_refusal(rt, name, refusal),
-    };
-    let lowest = reference.lowest.cents;
-    let highest = reference.highest.cents;
-    let twice = reference.twice_middle();
-    let collar = reference.collar();
-    let low = collar.lowest.cents;
-    let high = collar.highest.cents;
-    println!(rt; "{name} collar,{lowest},{highest},{twice},{low},{high}")
+/// The ranges of a quote and a last sale.
+pub(crate) fn ranges_of(quoted: Quoted) -> Result<Collared, Refusal> {
+    Ok(Collared(quoted.reference()?))
 }

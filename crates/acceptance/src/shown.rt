@@ -1,17 +1,21 @@
 //! Orders and events as the answers show them.
 
-ghost use Rattle.std.specs.Prelude.{◌≡◌, if◌then◌else◌};
-
+use market::event::Event;
 use market::order::{OrderPrice, OrderTerms, Side};
-use market::price::Price;
-use session::event::Event;
 use std::fmt;
 
-/// 1 for true and 0 for false.
-fn bit(b: bool) -> u8
-    ensures { result ≡ (if b then 1 else 0) }
-{
-    if b { 1 } else { 0 }
+/// A price in cents, or the word for none.
+#[derive(Clone, Copy)]
+struct CentsOr(Option<u32>, &'static str);
+
+impl fmt::Display for CentsOr {
+    fn fmt<W: fmt::Write>(&self, f: &mut fmt::Formatter<W>) -> fmt::Result {
+        let CentsOr(cents, word) = *self;
+        match cents {
+            Some(cents) => write!(f, "{cents}"),
+            None => write!(f, "{word}"),
+        }
+    }
 }
 
 /// An order: `SIDE,LIMIT,SHARES,ENTRY,DISPLAYED,STAYS`.
@@ -21,35 +25,18 @@ pub(crate) struct ShownTerms(pub(crate) OrderTerms);
 impl fmt::Display for ShownTerms {
     fn fmt<W: fmt::Write>(&self, f: &mut fmt::Formatter<W>) -> fmt::Result {
         let terms = self.0;
-        match terms.side {
-            Side::Buy => write!(f, "buy,")?,
-            Side::Sell => write!(f, "sell,")?,
-        }
-        match terms.price {
-            OrderPrice::Market => write!(f, "market,")?,
-            OrderPrice::Limit(cents) => write!(f, "{cents},")?,
-        }
-        let shares = terms.shares;
-        let entry = terms.entry;
-        let displayed = bit(terms.displayed);
-        let stays = bit(terms.stays);
-        write!(f, "{shares},{entry},{displayed},{stays}")
-    }
-}
-
-/// One price of a quote.
-#[derive(Clone, Copy)]
-struct ShownPrice(Option<Price>);
-
-impl fmt::Display for ShownPrice {
-    fn fmt<W: fmt::Write>(&self, f: &mut fmt::Formatter<W>) -> fmt::Result {
-        match self.0 {
-            None => write!(f, "none"),
-            Some(price) => {
-                let cents = price.cents;
-                write!(f, "{cents}")
-            }
-        }
+        let side = match terms.side {
+            Side::Buy => "buy",
+            Side::Sell => "sell",
+        };
+        let cents = match terms.price {
+            OrderPrice::Market => None,
+            OrderPrice::Limit(cents) => Some(cents),
+        };
+        let limit = CentsOr(cents, "market");
+        let (shares, entry) = (terms.shares, terms.entry);
+        let (displayed, stays) = (u8::from(terms.displayed), u8::from(terms.stays));
+        write!(f, "{side},{limit},{shares},{entry},{displayed},{stays}")
     }
 }
 
@@ -60,14 +47,11 @@ pub(crate) struct ShownEvent(pub(crate) Event);
 impl fmt::Display for ShownEvent {
     fn fmt<W: fmt::Write>(&self, f: &mut fmt::Formatter<W>) -> fmt::Result {
         match self.0 {
-            Event::Enter(order) => {
-                let terms = ShownTerms(order.terms);
-                write!(f, "enter,{terms}")
-            }
+            Event::Enter(order) => write!(f, "enter,{}", ShownTerms(order.terms)),
             Event::Cancel { entry, shares } => write!(f, "cancel,{entry},{shares}"),
             Event::Quote(quote) => {
-                let bid = ShownPrice(quote.bid);
-                let offer = ShownPrice(quote.offer);
+                let bid = CentsOr(quote.bid.map(|price| price.cents), "none");
+                let offer = CentsOr(quote.offer.map(|price| price.cents), "none");
                 write!(f, "quote,{bid},{offer}")
             }
             Event::Publish => write!(f, "publish"),

@@ -9,7 +9,7 @@ use Rattle.market.specs.declared.order.Side.{Side}
 use Rattle.market.specs.declared.order.Side.TheVariants.{Buy, Sell}
 use Rattle.market.specs.declared.order.OrderTerms.{OrderTerms}
 use Rattle.book.specs.Lists.{joined, most_orders}
-use Rattle.book.proofs.Layers.{length_joined}
+use Rattle.book.proofs.Joining.{length_joined}
 use Rattle.cross.specs.declared.allotment.Allotment.{Allotment}
 use Rattle.cross.specs.Allotments.{allotment, allotments, side_allotments, side_places}
 use Rattle.cross.specs.Fills.{at_place, no_order, places}

@@ -1,5 +1,5 @@
 -- What the report of a session file says.
-use Rattle.std.specs.Prelude.{◌≡◌, ℕ, Bool, cond, List, [], ◌∷◌, ◌++◌, length, Some, None, codes, decimal, Option, ◌==◌}
+use Rattle.std.specs.Prelude.{ℕ, List, [], ◌∷◌, ◌++◌, length, Some, None, codes, decimal, Option}
 use Rattle.std.specs.List.{flat_map}
 use Rattle.market.specs.Causes.{Cause}
 use Rattle.market.specs.Ranges.{collar_highest, collar_lowest, twice_middle}
@@ -9,9 +9,10 @@ use Rattle.cross.specs.Allotments.{allotments}
 use Rattle.cross.specs.Clearing.{clearing_price}
 use Rattle.cross.specs.Crossing.{clearing_fills}
 use Rattle.cross.specs.Depth.{executed}
-use Rattle.cross.specs.Rankings.{by_display, by_shares}
-use Rattle.session.specs.Faults.{fault}
-use Rattle.session.specs.Layout.{KeepsLayout, Session}
+use Rattle.session.specs.Layout.{Session}
+use Rattle.reporting.specs.Told.{CauseTold, SessionTold, Told}
+pub use Rattle.reporting.specs.Sessions.{or_empty, ranking_of}
+pub use Rattle.reporting.specs.Told.{first_line, refused_line}
 
 -- decimal numbers, a comma before each, a line feed, and then the rest
 abbrev pub numbers : List ℕ → List ℕ → List ℕ
@@ -22,20 +23,10 @@ numbers (n ∷ ns) rest = codes "," ++ (decimal n ++ numbers ns rest)
 abbrev pub line : List ℕ → List ℕ → List ℕ → List ℕ
 line word ns rest = word ++ numbers ns rest
 
-abbrev pub first_line : List ℕ
-first_line = codes "event,answer,price,shares\n"
-
-abbrev pub refused_line : Cause → List ℕ
-refused_line c = line (codes "refused") (c.number ∷ c.layer ∷ c.byte ∷ []) []
-
 -- how many there are; an absent body counts as empty
 abbrev pub count : {X : Type 0} → Option (List X) → ℕ
 count None = 0
 count (Some xs) = length xs
-
-abbrev pub or_empty : {X : Type 0} → Option (List X) → List X
-or_empty None = []
-or_empty (Some xs) = xs
 
 -- the lines of an accepted file, by their numbers: what is in it, the collar of the last sale, and the price and the
 -- shares at which its resting orders would clear in that collar; and then the rest
@@ -46,10 +37,6 @@ figures_text r e n l k lo hi p x rest =
 -- the line of one record of an allotment list
 abbrev pub fill_line : Allotment → List ℕ
 fill_line a = line (codes "fill") (a.place ∷ a.fill ∷ []) []
-
--- the ranking that a heading names
-abbrev pub ranking_of : ℕ → OrderTerms → OrderTerms → Bool
-ranking_of n = cond (n == 1) by_display by_shares
 
 -- the same of a last sale and a list of resting orders
 module _ (last_sale : ℕ) (os : List OrderTerms) where
@@ -74,19 +61,13 @@ session_lines s =
     priced_text s.last_sale (or_empty s.resting) (count s.resting) (count s.events) (count s.note) s.ranking
 
 -- the file keeps the layout of this session and of no other, and the text tells what is in it
-pub record TellsSession (file text : List ℕ) (s : Session) : Type 0 where
-  pub no_cause : fault file ≡ None
-  pub keeps : KeepsLayout file s
-  pub only : (t : Session) → KeepsLayout file t → t ≡ s
-  pub told : text ≡ first_line ++ session_lines s
+abbrev pub TellsSession : (file text : List ℕ) → Session → Type 0
+TellsSession = SessionTold session_lines
 
 -- the file is refused for this cause and keeps the layout of no session, and the text tells the cause
-pub record TellsCause (file text : List ℕ) (c : Cause) : Type 0 where
-  pub because : fault file ≡ Some c
-  pub breaks : (s : Session) → KeepsLayout file s → ⊥
-  pub told : text ≡ first_line ++ refused_line c
+abbrev pub TellsCause : (file text : List ℕ) → Cause → Type 0
+TellsCause = CauseTold refused_line
 
 -- a file is told by the session that it holds, or else by its one cause
-pub data Reports (file text : List ℕ) : Type 0 where
-  accepted : (s : Session) → TellsSession file text s → Reports file text
-  refused : (c : Cause) → TellsCause file text c → Reports file text
+abbrev pub Reports : (file text : List ℕ) → Type 0
+Reports = Told session_lines refused_line

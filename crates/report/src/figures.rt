@@ -6,11 +6,11 @@ ghost use Rattle.market.specs.Ranges.{collar_highest, collar_lowest, twice_middl
 ghost use Rattle.report.specs.Pricing.{Priced};
 ghost use Rattle.report.specs.Text.{figures_text, first_line, line, ranking_of};
 
-use crate::FIRST_LINE;
 use crate::pricing::cross_by;
 use book::Book;
 use cross::allotment::Allotment;
 use market::range::PriceRange;
+use reporting::FIRST_LINE;
 use session::heading::Heading;
 use std::alloc::{AllocError, Global};
 

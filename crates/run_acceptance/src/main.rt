@@ -13,25 +13,28 @@
 
 #![tactic(auto)]
 
-mod table;
-
+use cases::{bytes_of, case_of};
 use run_report::report;
+use std::alloc::Global;
 use std::io;
 use std::io::{BufRead, BufReader};
 
-/// Runs the session of the file, and prints its report below the name.
-fn print(rt: &HostRuntime, name: &str, file: &[u8]) -> io::Result<()> {
-    let text = report(rt.alloc(), file)?;
-    println!(rt; "{name}")?;
-    rt.print(text.as_str())
+/// The file of the text after a name, `report BYTES`. None where it has another form, or where there is no memory for it.
+fn session_of(heap: Global, text: &str) -> Option<Vec<u8>> {
+    match text.split_once(' ')? {
+        ("report", file) => bytes_of(heap, file).ok(),
+        _ => None,
+    }
 }
 
-/// Prints what one line of the table comes to.
+/// Prints what one line of the table comes to: the report of its session's run, below the name.
 fn judge(rt: &HostRuntime, line: &str) -> io::Result<()> {
-    let case = table::case_of(rt.alloc(), line);
-    let name = case.name;
-    match &case.session {
-        Some(file) => print(rt, name, file.as_slice()),
+    let (name, text) = case_of(line);
+    match text.and_then(|text| session_of(rt.alloc(), text)) {
+        Some(file) => {
+            let told = report(rt.alloc(), &file)?;
+            print!(rt; "{name}\n{told}")
+        }
         None => println!(rt; "{name} unreadable"),
     }
 }

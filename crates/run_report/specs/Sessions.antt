@@ -1,10 +1,9 @@
 -- The run of a session: its events on the auction of its last sale, each with its resting orders as the filed book, under
 -- its ranking.
-use Rattle.std.specs.Prelude.{ℕ, ◌+◌, Bool, cond, List, [], map, replicate, Some, None, Option, ◌==◌}
+use Rattle.std.specs.Prelude.{◌+◌, List, map, replicate}
 use Rattle.market.specs.Calls.{Timed}
 use Rattle.market.specs.declared.order.OrderTerms.{OrderTerms}
 use Rattle.cross.specs.declared.allotment.Allotment.{Allotment}
-use Rattle.cross.specs.Rankings.{by_display, by_shares}
 use Rattle.session.specs.Layout.{Session}
 use Rattle.session.specs.Records.{most_resting, orders_in}
 use Rattle.session.specs.declared.record.Record.{Ghosts}
@@ -12,19 +11,11 @@ use Rattle.session.specs.declared.record.filed.FiledRecords.{FiledRecords}
 use Rattle.auction.specs.Rows.{most_accepted}
 use Rattle.replay.specs.Performing.{State}
 use Rattle.replay.specs.Runs.{Asked, first_state}
-
--- an absent body counts as empty
-abbrev pub or_empty : {X : Type 0} → Option (List X) → List X
-or_empty None = []
-or_empty (Some xs) = xs
+pub use Rattle.reporting.specs.Sessions.{or_empty, ranking_of}
 
 -- the orders of a filed book
 abbrev pub filed_orders : {R : Type 0} {G : Ghosts R} → FiledRecords R G → List OrderTerms
 filed_orders b = orders_in b.records.now
-
--- the ranking that a heading names
-abbrev pub ranking_of : ℕ → OrderTerms → OrderTerms → Bool
-ranking_of n = cond (n == 1) by_display by_shares
 
 -- an event, with the book that stands as the filed book
 abbrev pub asked_with : List OrderTerms → Timed → Asked

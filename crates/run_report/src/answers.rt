@@ -111,11 +111,7 @@ fn push_fills(text: &mut String, allotments: &[Allotment]) -> Result<(), AllocEr
 fn first_of(list: &[Allotment], count: usize) -> &[Allotment]
     ensures { result.now ≡ take count list.now }
 {
-    if count < list.len() {
-        &list[0..count]
-    } else {
-        list
-    }
+    &list[..count.min(list.len())]
 }
 
 /// Appends the line of an event, and those that its answer adds.

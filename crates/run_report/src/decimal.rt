@@ -6,6 +6,7 @@ ghost use Rattle.run_report.specs.Decimals.{DecimalRule, decimal, integer};
 use std::alloc::AllocError;
 
 /// Appends a decimal number: its leading digits by the same rule, and then its last digit.
+// By recursion and not by the library's `{}`: a report's numbers are written as `DecimalRule` reads.
 pub(crate) fn push_decimal(text: &mut String, n: u64) -> Result<(), AllocError>
     ensures appended { OnOk result (string_bytes text.new ≡ string_bytes text.old ++ decimal n) }
     ensures rule { DecimalRule }

@@ -3,7 +3,7 @@
 
 #![tactic(auto)]
 
-ghost use Rattle.std.specs.Prelude.{◌≡◌, ◌++◌, IfOk, string_bytes, OnOk};
+ghost use Rattle.std.specs.Prelude.{◌≡◌, ◌++◌, IfOk, string_bytes};
 ghost use Rattle.market.specs.Causes.{cause};
 ghost use Rattle.session.specs.Reading.{Accepts, handed};
 ghost use Rattle.run_report.specs.Text.{Reports, first_line, refused_line, session_lines};
@@ -14,7 +14,8 @@ use crate::line::push_line;
 use auction::auction_book::MOST_ACCEPTED;
 use cross::allotment::Allotment;
 use market::refusal::Refusal;
-use session::file::{LARGEST_FILE, SessionFile, read};
+use reporting::FIRST_LINE;
+use session::file::{SessionFile, read};
 use session::resting::MOST_RESTING;
 use std::alloc::{AllocError, Global};
 
@@ -23,32 +24,22 @@ mod decimal;
 mod events;
 mod line;
 
-/// How much of an input the report needs: one byte more than the largest session file, so that longer input is refused
-/// as too large and endless input is not read on.
-pub const MOST_INPUT: u64 = LARGEST_FILE as u64 + 1;
+pub use reporting::MOST_INPUT;
 
 /// The fullest auction book, and the longest resting body behind it.
 const MOST_ALLOTMENTS: usize = MOST_ACCEPTED + MOST_RESTING;
 
-/// The first line of every report: the names of the columns.
-const FIRST_LINE: &str = "event,answer,price,shares\n";
-
-/// Appends the line of a cause.
-fn push_cause(text: &mut String, number: u8, layer: u8, byte: u16) -> Result<(), AllocError>
-    ensures { OnOk result (string_bytes text.new ≡ string_bytes text.old ++ refused_line (record { number = number; layer = layer; byte = byte })) }
-{
-    push_line(
-        text,
-        "refused",
-        &[i64::from(number), i64::from(layer), i64::from(byte)],
-    )
-}
-
+// By `push_line` and no `format!` of the refusal: every number of this text is held to the rule of `decimal`.
 fn refused_text(heap: Global, refusal: Refusal) -> Result<String, AllocError>
     ensures { IfOk result (λ t. string_bytes t ≡ first_line ++ refused_line (cause refusal)) }
 {
     let mut text = String::from_str(heap, FIRST_LINE)?;
-    push_cause(&mut text, refusal.number(), refusal.layer(), refusal.byte())?;
+    let (number, layer, byte) = (refusal.number(), refusal.layer(), refusal.byte());
+    push_line(
+        &mut text,
+        "refused",
+        &[i64::from(number), i64::from(layer), i64::from(byte)],
+    )?;
     Ok(text)
 }
 

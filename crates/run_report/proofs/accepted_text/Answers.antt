@@ -1,5 +1,5 @@
 -- What is run and told is the session that is handed out.
-use Rattle.std.proofs.Common.{◌≡◌, ℕ, Bool, true, false, cond, List, [], ◌++◌, map, Some, None, sym, refl, ap, ◌∙◌}
+use Rattle.std.proofs.Common.{◌≡◌, ℕ, List, ◌++◌, map, sym, ap, ◌∙◌}
 use Rattle.market.specs.Calls.{Timed}
 use Rattle.market.specs.RankingNames.{ranking_number}
 use Rattle.market.specs.declared.order.OrderTerms.{OrderTerms}
@@ -9,16 +9,12 @@ use Rattle.session.specs.Records.{events_in, orders_in}
 use Rattle.session.specs.declared.body.BodyKind.TheVariants.{Resting, Events}
 use Rattle.replay.specs.Performing.{Answer, reply}
 use Rattle.replay.specs.Runs.{first_state}
+use Rattle.reporting.proofs.Telling.{listed}
 use Rattle.run_report.specs.Answers.{all_lines, run_lines}
 use Rattle.run_report.specs.Sessions.{asked_with, blank_list, or_empty, ranking_of}
 use Rattle.run_report.specs.Text.{first_line}
 use Rattle.run_report.proofs.RunLines.{told_by_last_list}
 use Rattle.run_report.proofs.accepted_text.Goals as goal
-
--- an absent body counts as empty
-listed : {X : Type 0} (b : Bool) (xs : List X) → (b ≡ false → xs ≡ []) → xs ≡ or_empty (cond b (Some xs) None)
-listed true xs h = refl
-listed false xs h = h refl
 
 pub returns : goal.returns
 returns c =

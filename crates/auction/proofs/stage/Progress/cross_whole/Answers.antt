@@ -3,7 +3,7 @@ use Rattle.std.proofs.Common.{◌≡◌, ◌≤◌, length, sym, ap, ◌∙◌, 
 use Rattle.std.specs.List.{AllByRecursion as All}
 use Rattle.market.specs.Ranges.{collar_highest, collar_lowest, twice_middle}
 use Rattle.book.specs.Lists.{joined}
-use Rattle.book.proofs.Layers.{length_joined}
+use Rattle.book.proofs.Joining.{length_joined}
 use Rattle.cross.specs.Crossing.{clearing_fills}
 use Rattle.cross.proofs.Allotting.{first_records, records_fit}
 use Rattle.auction.specs.Auctions.{auction_at, collar_high, collar_low, twice}

@@ -1,2 +1,0 @@
--- What the acceptance program's contracts cite.
-pub mod Digits

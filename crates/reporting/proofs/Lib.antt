@@ -1,0 +1,2 @@
+-- What the proofs of both reports share.
+pub mod Telling

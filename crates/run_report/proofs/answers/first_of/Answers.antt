@@ -1,7 +1,0 @@
--- Where there are no more records, all are taken.
-use Rattle.std.proofs.Common.{sym}
-use Rattle.std.proofs.lemmas.List.{take_all}
-use Rattle.run_report.proofs.answers.first_of.Goals as goal
-
-pub returns-else-count-list : goal.returns-else-count-list
-returns-else-count-list c = sym (take_all c.args.count c.args.list.now c.if-count-list.false)
