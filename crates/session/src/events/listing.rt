@@ -1,16 +1,16 @@
 //! The events by place.
 
-ghost use Rattle.std.specs.Prelude.{◌≡◌, ◌+◌, ◌<◌, ◌≤◌, true, length, None, slice_index_or};
+ghost use Rattle.std.specs.Prelude.{◌≡◌, true, length};
 ghost use Rattle.session.specs.declared.field.Values.TheVariants.{CentsOrNone};
 ghost use Rattle.market.specs.Ranges.{cents_of};
 ghost use Rattle.market.specs.Calls.{timed};
 ghost use Rattle.session.specs.Events.{AnswersEvent, SoundEvent};
-ghost use Rattle.session.specs.Fields.{admits, first_bad};
-ghost use Rattle.session.specs.Faults.{fields_of_event};
+ghost use Rattle.session.specs.Fields.{admits};
 ghost use Rattle.session.specs.Records.{entered, event_at, events_in};
 
-use super::FiledEvents;
+use super::{EventRecord, FiledEvents};
 use crate::field::{four_at, side_of, two_at};
+use crate::record::filed::CleanRecord;
 use crate::record::kind::EventKind;
 use market::event::{Event, TimedEvent};
 use market::order::{Order, OrderPrice, OrderTerms};
@@ -44,36 +44,38 @@ fn entered_terms(flags: u8, entry: u16, limit: u32, shares: u32) -> OrderTerms
     }
 }
 
-/// The event whose record begins at a byte.
-fn event_at(bytes: &[u8], at: usize) -> TimedEvent
-    requires within { at + 16 ≤ length bytes.now }
-    requires clean { first_bad (fields_of_event bytes.now at) bytes.now at ≡ None }
-    ensures { timed result ≡ event_at bytes.now at }
-{
-    let number = two_at(bytes, at + 6);
-    let first = four_at(bytes, at + 8);
-    let second = four_at(bytes, at + 12);
-    let event = match EventKind::try_from(u32::from(bytes[at + 4])).unwrap() {
-        EventKind::Enter => {
-            let terms = entered_terms(bytes[at + 5], number, first, second);
-            Event::Enter(Order { terms })
+impl<'a> CleanRecord<'a, EventRecord> {
+    /// The event that the record says.
+    fn event(self) -> TimedEvent
+        ensures { timed result ≡ event_at self.entry.bytes.now self.entry.at }
+    {
+        let bytes = self.bytes;
+        let at = self.at;
+        let number = two_at(bytes, at + 6);
+        let first = four_at(bytes, at + 8);
+        let second = four_at(bytes, at + 12);
+        let event = match EventKind::try_from(u32::from(bytes[at + 4])).unwrap() {
+            EventKind::Enter => {
+                let terms = entered_terms(bytes[at + 5], number, first, second);
+                Event::Enter(Order { terms })
+            }
+            EventKind::Cancel => Event::Cancel {
+                entry: number,
+                shares: second,
+            },
+            EventKind::Quote => Event::Quote(Quote {
+                bid: filed_price(first),
+                offer: filed_price(second),
+            }),
+            EventKind::Publish => Event::Publish,
+            EventKind::Lock => Event::Lock,
+            EventKind::Shut => Event::Shut,
+            EventKind::Cross => Event::Cross,
+        };
+        TimedEvent {
+            time: four_at(bytes, at),
+            event,
         }
-        EventKind::Cancel => Event::Cancel {
-            entry: number,
-            shares: second,
-        },
-        EventKind::Quote => Event::Quote(Quote {
-            bid: filed_price(first),
-            offer: filed_price(second),
-        }),
-        EventKind::Publish => Event::Publish,
-        EventKind::Lock => Event::Lock,
-        EventKind::Shut => Event::Shut,
-        EventKind::Cross => Event::Cross,
-    };
-    TimedEvent {
-        time: four_at(bytes, at),
-        event,
     }
 }
 
@@ -89,7 +91,7 @@ impl<'a> FiledEvents<'a> {
     pub fn event(&self, place: usize) -> Option<TimedEvent>
         ensures { AnswersEvent (events_in self.now.records.now) place result }
     {
-        let at = self.start_of(place)?;
-        Some(event_at(self.records, at))
+        let record = self.get(place)?;
+        Some(record.event())
     }
 }
