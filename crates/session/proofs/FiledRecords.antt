@@ -5,6 +5,7 @@ use Rattle.std.proofs.lemmas.List.FromFn.{get_or-map-range_with_len, length-map-
 use Rattle.std.specs.List.{range_with_len}
 use Rattle.session.specs.Fields.{first_bad}
 use Rattle.session.specs.Faults.{first_in}
+use Rattle.session.specs.Records.{event_at, event_size, events_in, order_at, order_size, orders_in}
 use Rattle.session.proofs.Checks.{or_none}
 use Rattle.session.proofs.RecordSteps.{Table}
 
@@ -42,3 +43,10 @@ inside s bs k below =
 pub listed : {X : Type 0} (s : ℕ) (read : List ℕ → ℕ → X) (bs : List ℕ) (k : ℕ) → k < length bs / s
     → (x : X) → read bs (s * k) ≡ get_or (said s read bs) k x
 listed s read bs k below x = sym (get_or-map-range_with_len (λ i. read bs (s * i)) 0 (length bs / s) k k x below (omega arith))
+
+-- as many orders and events as records
+pub length_orders : (bs : List ℕ) → length (orders_in bs) ≡ length bs / order_size
+length_orders bs = length_said order_size order_at bs
+
+pub length_events : (bs : List ℕ) → length (events_in bs) ≡ length bs / event_size
+length_events bs = length_said event_size event_at bs

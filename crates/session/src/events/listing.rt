@@ -81,6 +81,7 @@ impl<'a> CleanRecord<'a, EventRecord> {
 
 impl<'a> FiledEvents<'a> {
     /// How many events there are.
+    #[tactic(auto, using(crate::proofs::FiledRecords::length_events))]
     pub fn count(&self) -> usize
         ensures { result ≡ length (events_in self.now.records.now) }
     {

@@ -34,6 +34,7 @@ impl<'a> Book for FiledBook<'a> {
 
     ghost short = { λ b. filed_short b.records.now b.fitting };
 
+    #[tactic(auto, using(crate::proofs::FiledRecords::length_orders))]
     fn count(&self) -> usize {
         self.len()
     }
