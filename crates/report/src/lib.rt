@@ -13,6 +13,7 @@ use book::Book;
 use cross::allotment::Allotment;
 use market::refusal::Refusal;
 use session::file::{LARGEST_FILE, SessionFile, read};
+use session::resting::MOST_RESTING;
 use std::alloc::{AllocError, Global};
 
 mod figures;
@@ -22,9 +23,6 @@ mod pricing;
 /// How much of an input the report needs: one byte more than the largest session file, so that longer input is refused
 /// as too large and endless input is not read on.
 pub const MOST_INPUT: u64 = LARGEST_FILE as u64 + 1;
-
-/// The most orders that a resting body has.
-const MOST_RESTING: usize = 256;
 
 /// The first line of every report: the names of the columns.
 pub(crate) const FIRST_LINE: &str = "event,answer,price,shares\n";

@@ -11,6 +11,7 @@ ghost use Rattle.session.specs.Records.{entered, event_at, events_in};
 use super::{EventRecord, FiledEvents};
 use crate::field::{four_at, side_of, two_at};
 use crate::record::filed::CleanRecord;
+use crate::record::flags::{DISPLAYED, MARKET, SELL, STAYS};
 use crate::record::kind::EventKind;
 use market::event::{Event, TimedEvent};
 use market::order::{Order, OrderPrice, OrderTerms};
@@ -25,22 +26,22 @@ fn filed_price(cents: u32) -> Option<Price>
     Price::new(cents).ok()
 }
 
-/// The terms of an order that is entered; the flags sum 1 sell, 2 market, 4 stays and 8 displayed.
+/// The terms of an order that is entered.
 fn entered_terms(flags: u8, entry: u16, limit: u32, shares: u32) -> OrderTerms
     ensures { result ≡ entered flags entry limit shares }
 {
-    let price = if flags & 2 != 0 {
+    let price = if flags & MARKET != 0 {
         OrderPrice::Market
     } else {
         OrderPrice::Limit(limit)
     };
     OrderTerms {
-        side: side_of(flags & 1 != 0),
+        side: side_of(flags & SELL != 0),
         price,
         shares,
         entry,
-        displayed: flags & 8 != 0,
-        stays: flags & 4 != 0,
+        displayed: flags & DISPLAYED != 0,
+        stays: flags & STAYS != 0,
     }
 }
 
