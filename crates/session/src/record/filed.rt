@@ -1,6 +1,6 @@
 //! The records of an accepted body, where they lie in the file.
 
-ghost use Rattle.std.specs.Prelude.{◌≡◌, ◌+◌, ◌≤◌, true, false, length, is_some, None, ⊤};
+ghost use Rattle.std.specs.Prelude.{◌≡◌, ◌+◌, ◌≤◌, true, length, None, ⊤};
 ghost use Rattle.session.specs.Faults.{bad_field, fits};
 ghost use Rattle.session.specs.Fields.{first_bad};
 
@@ -15,7 +15,7 @@ pub struct FiledRecords<'a, R: Record> {
     pub records: &'a [u8],
     pub kind: PhantomData<R>,
     ghost fitting: { fits R.body (length records.now) ≡ true },
-    ghost clean: { is_some (bad_field R.body records.now) ≡ false },
+    ghost clean: { bad_field R.body records.now ≡ None },
 }
 
 impl<'a, R: Record> Clone for FiledRecords<'a, R> {
