@@ -1,5 +1,5 @@
 -- Checks that answer a fault or none: what is known of their parts where they find nothing, and where they find one.
-use Rattle.std.proofs.Common.{◌≡◌, Bool, true, false, cond, ◌⊎◌, is_some, Some, None, Option, refl, ap, inl, inr}
+use Rattle.std.proofs.Common.{◌≡◌, Bool, true, false, cond, ◌⊎◌, Some, None, Option, refl, inl, inr}
 use Rattle.std.specs.Option.{option_map}
 use Rattle.session.specs.Faults.{or_else}
 
@@ -25,11 +25,3 @@ or_some (Some y) b x e = inl e
 pub mapped_none : {X Y : Type 0} (f : X → Y) (o : Option X) → option_map f o ≡ None → o ≡ None
 mapped_none f None e = refl
 mapped_none f (Some x) e = cc
-
--- none, as a test
-pub no_fault : {X : Type 0} (o : Option X) → is_some o ≡ false → o ≡ None
-no_fault None e = refl
-no_fault (Some x) e = cc
-
-pub none_some : {X : Type 0} (o : Option X) → o ≡ None → is_some o ≡ false
-none_some o e = ap is_some e

@@ -6,7 +6,6 @@ pub mod Handed
 pub mod EventKinds
 pub mod Faults
 pub mod Told
-pub mod Places
 pub mod FirstCauses
 pub mod Layout
 pub mod Filed

@@ -8,6 +8,7 @@ ghost use Rattle.session.specs.Fields.{first_bad};
 
 pub(crate) mod fields;
 pub(crate) mod filed;
+pub(crate) mod flags;
 pub(crate) mod kind;
 pub(crate) mod walk;
 

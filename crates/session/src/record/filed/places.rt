@@ -1,10 +1,10 @@
 //! The records by place.
 
-ghost use Rattle.std.specs.Prelude.{◌≡◌, ◌/◌, ◌≤◌, length, MatchOption};
-ghost use Rattle.session.specs.Places.{Begins};
+ghost use Rattle.std.specs.Prelude.{◌≡◌, ◌*◌, ◌/◌, ◌<◌, ◌≤◌, length, MatchOption};
 
-use super::FiledRecords;
+use super::{CleanRecord, FiledRecords};
 use crate::record::Record;
+use std::marker::PhantomData;
 
 impl<'a, R: Record> FiledRecords<'a, R> {
     /// How many there are.
@@ -14,13 +14,17 @@ impl<'a, R: Record> FiledRecords<'a, R> {
         self.records.len() / R::SIZE
     }
 
-    /// Where the record at a place begins, counted from 0; none at or past the count.
-    pub(crate) fn start_of(&self, place: usize) -> Option<usize>
-        ensures { MatchOption result (length self.now.records.now / R.SIZE ≤ place) (Begins R.fields R.SIZE self.now.records.now place) }
+    /// The record at a place, counted from 0; none at or past the count.
+    pub(crate) fn get(&self, place: usize) -> Option<CleanRecord<'a, R>>
+        ensures { MatchOption result (length self.now.records.now / R.SIZE ≤ place) (λ r. (r.bytes.now ≡ self.now.records.now) × (r.at ≡ R.SIZE * place) × (place < length self.now.records.now / R.SIZE)) }
     {
         if place >= self.len() {
             return None;
         }
-        Some(R::SIZE * place)
+        Some(CleanRecord {
+            bytes: self.records,
+            at: R::SIZE * place,
+            kind: PhantomData,
+        })
     }
 }

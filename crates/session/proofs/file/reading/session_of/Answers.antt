@@ -4,7 +4,6 @@ use Rattle.std.proofs.lemmas.Result.{MatchResult-at_ok}
 use Rattle.market.specs.RankingNames.{ranking_number}
 use Rattle.session.specs.declared.body.BodyKind.TheVariants.{Resting, Events}
 use Rattle.session.specs.Fields.{byte, four}
-use Rattle.session.proofs.Checks.{none_some}
 use Rattle.session.proofs.HeadingRecord.{names_ranking}
 use Rattle.session.proofs.Readings.{accepts, body_clean, body_fits, heading_lawful}
 use Rattle.session.proofs.file.reading.session_of.Goals as goal
@@ -21,7 +20,7 @@ invariant_of-result-2 c =
     let is = c.bytes-resting.ensures ∙ c.body-2.ensures.bytes in
     record {
       fitting = body_fits file Resting bs c.requires is;
-      clean = none_some _ (body_clean file Resting bs c.requires is);
+      clean = body_clean file Resting bs c.requires is;
     }
 
 pub invariant_of-result-3 : goal.invariant_of-result-3
@@ -31,7 +30,7 @@ invariant_of-result-3 c =
     let is = c.bytes-events.ensures ∙ c.body-3.ensures.bytes in
     record {
       fitting = body_fits file Events bs c.requires is;
-      clean = none_some _ (body_clean file Events bs c.requires is);
+      clean = body_clean file Events bs c.requires is;
     }
 
 pub returns : goal.returns
