@@ -19,6 +19,8 @@ use Rattle.cross.proofs.ThreeSteps.{
   SellsServed,
   meets,
   meets_only,
+  Meets,
+  Within,
   candidates_within,
   candidates_meet,
   candidates_rise,
@@ -229,7 +231,7 @@ module _ (lo hi : ℕ) (os : List OrderTerms) where
       let p = clearing_price lo hi t os in
       let cs = candidates lo hi os in
       let some = candidates_some lo hi os o in
-      let within = nearest_of_any _ t cs some (candidates_within lo hi os) in
-      let meets = nearest_of_any _ t cs some (candidates_meet lo hi os) in
+      let within = nearest_of_any (Within lo hi os) t cs some (candidates_within lo hi os) in
+      let meets = nearest_of_any (Meets lo hi os) t cs some (candidates_meet lo hi os) in
       let first = nearest_of_before t cs (candidates_rise lo hi os) in
       fills_best good laws p sums within.0 within.1 meets.0 meets.1 t (at_candidate lo hi os (Before t p) first)
