@@ -32,27 +32,8 @@ module _ (side : Side) (os : List OrderTerms) where
   pub places_left : (k : ℕ) → mine k ≡ false → side_places side os (k + 1) ≡ side_places side os k
   places_left k e = places_more k ∙ (ap (λ b. side_places side os k ++ cond b (k ∷ []) []) e ∙ append-nil (side_places side os k))
 
-  -- among more places there are no fewer of a side
-  pub places_rise : (n k : ℕ) → k ≤ n → length (side_places side os k) ≤ length (side_places side os n)
-  places_rise zero k h = let e : k ≡ 0 = omega arith in rw e (omega arith)
-  places_rise (suc n) k h =
-      elim (cases_eq k (suc n)) [
-        | inl e ↦ rw e (omega arith)
-        | inr e ↦
-            let next : suc n ≡ n + 1 = omega arith in
-            let more = ap length (places_more n) ∙ length-append (side_places side os n) (cond (mine n) (n ∷ []) []) in
-            subst (λ m. length (side_places side os k) ≤ length (side_places side os m)) (sym next)
-            (omega (arith, places_rise n k (omega arith), more))
-      ]
-
   pub places_within : (k : ℕ) → length (side_places side os k) ≤ k
   places_within k = omega (arith, length-filter_both mine (λ i. not (mine i)) (λ _. refl) (range_with_len 0 k), length-range_with_len 0 k)
-
-  -- there is a place in the list for one more of the side
-  pub room : (n k w len : ℕ) → k < n → mine k ≡ true → w ≡ length (side_places side os k) → length (side_places side os n) ≤ len → w < len
-  room n k w len h e q l =
-      let took = ap length (places_took k e) ∙ length-append (side_places side os k) (k ∷ []) in
-      omega (arith, places_rise n (k + 1) (omega arith), took, q, l)
 
   pub took_length : (k : ℕ) → mine k ≡ true → length (side_places side os (k + 1)) ≡ length (side_places side os k) + 1
   took_length k e = ap length (places_took k e) ∙ length-append (side_places side os k) (k ∷ [])

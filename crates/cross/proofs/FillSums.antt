@@ -25,33 +25,8 @@ pub same_side_both : (s t u : Side) → same_side s t ≡ true → same_side s u
 same_side_both s t u a b = rw (sym (same_side_is s t a)) b
 
 module _ (lo hi : ℕ) where
-  -- ---- the willing shares of a side, by place and in the list
-
   abbrev pub willing_shares : ℕ → OrderTerms → ℕ
   willing_shares p o = cond (willing lo hi p o) o.shares 0
-
-  willing_buys : (p x c : ℕ) (s : Side)
-      → cond (same_side Buy s) (cond (willing_at lo hi p s c) x 0) 0 ≡ cond (buys s && leb p c) x 0
-  willing_buys p x c Buy = refl
-  willing_buys p x c Sell = refl
-
-  willing_sells : (p x c : ℕ) (s : Side)
-      → cond (same_side Sell s) (cond (willing_at lo hi p s c) x 0) 0 ≡ cond (sells s && leb c p) x 0
-  willing_sells p x c Buy = refl
-  willing_sells p x c Sell = refl
-
-  module _ (os : List OrderTerms) where
-    pub willing_bought : (p : ℕ) → filled Buy os (λ i. willing_shares p (at_place os i)) ≡ bought lo hi os p
-    willing_bought p =
-        same_sums _ _ 0 (length os)
-        (λ i _. let o = at_place os i in willing_buys p o.shares (counts_at lo hi o) o.side)
-        ∙ sum_over_list (λ o. cond (willing_buy lo hi p o) o.shares 0) os no_order
-
-    pub willing_sold : (p : ℕ) → filled Sell os (λ i. willing_shares p (at_place os i)) ≡ sold lo hi os p
-    willing_sold p =
-        same_sums _ _ 0 (length os)
-        (λ i _. let o = at_place os i in willing_sells p o.shares (counts_at lo hi o) o.side)
-        ∙ sum_over_list (λ o. cond (willing_sell lo hi p o) o.shares 0) os no_order
 
   module _ (good : OrderTerms → OrderTerms → Bool) (laws : Laws good) (os : List OrderTerms) where
     -- ---- who is ahead
