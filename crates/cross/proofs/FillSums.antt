@@ -9,6 +9,7 @@ use Rattle.market.specs.declared.order.OrderTerms.{OrderTerms}
 use Rattle.cross.specs.Crosses.{Fair}
 use Rattle.cross.specs.Depth.{buys, sells, bought, sold, counts_at, willing_buy, willing_sell}
 use Rattle.cross.specs.Fills.{ahead, at_place, fill, filled, no_order, places, shares_ahead, willing, willing_at}
+use Rattle.cross.specs.Queues.{asks}
 use Rattle.cross.specs.Rankings.{Laws, same_side}
 use Rattle.cross.proofs.InTurn.{Chain, all_given, asked_before, gets}
 use Rattle.cross.proofs.PlaceSums.{more_at_place, same_sums, sum_over_list}
@@ -25,9 +26,6 @@ pub same_side_both : (s t u : Side) → same_side s t ≡ true → same_side s u
 same_side_both s t u a b = rw (sym (same_side_is s t a)) b
 
 module _ (lo hi : ℕ) where
-  abbrev pub willing_shares : ℕ → OrderTerms → ℕ
-  willing_shares p o = cond (willing lo hi p o) o.shares 0
-
   module _ (good : OrderTerms → OrderTerms → Bool) (laws : Laws good) (os : List OrderTerms) where
     -- ---- who is ahead
 
@@ -104,7 +102,7 @@ module _ (lo hi : ℕ) where
       gets_fill j = let asked = ahead_served j in grind arith
 
       pub fills_sum : filled side os (fill lo hi good os p e)
-          ≡ min e (filled side os (λ i. willing_shares p (at_place os i)))
+          ≡ min e (filled side os (λ i. asks lo hi p (at_place os i)))
       fills_sum =
           same_sums _ _ 0 (length os) (λ j _. gets_fill j)
           ∙ all_given shares_at before never_itself onward served served_chain 0 (length os) e

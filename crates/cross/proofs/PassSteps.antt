@@ -29,26 +29,11 @@ pub record Passing (p : ℕ) (ahead os : List OrderTerms) (d : Depth) : Type 0 w
   pub below : d.sold_below + sum_by (sell_shares_below p) ahead ≡ sum_by (sell_shares_below p) os
   pub room : Room (length ahead) d
 
-pub pass_begins : (p : ℕ) (ahead os : List OrderTerms) (d : Depth) → ahead ≡ os → length os ≤ 4096
-    → (d.bought ≡ 0) × ((d.sold ≡ 0) × ((d.bought_above ≡ 0) × (d.sold_below ≡ 0))) → Passing p ahead os d
-pass_begins p ahead os d all short none =
-    let long = ap length all in
-    record {
-      bought = omega (arith, none.0, ap (sum_by (buy_shares p)) all);
-      sold = omega (arith, none.1.0, ap (sum_by (sell_shares p)) all);
-      above = omega (arith, none.1.1.0, ap (sum_by (buy_shares_above p)) all);
-      below = omega (arith, none.1.1.1, ap (sum_by (sell_shares_below p)) all);
-      room = (omega (arith, none.0, long), omega (arith, none.1.0, long), omega (arith, none.1.1.0, long), omega (arith, none.1.1.1, long));
-    }
-
 -- ---- where another order is next
 
 module _ (p : ℕ) (ahead rest os : List OrderTerms) (d : Depth) (o : OrderTerms) (step : ahead ≡ o ∷ rest) (passing : Passing p ahead os d) where
   long : length ahead ≡ suc (length rest)
   long = ap length step
-
-  pub room_for_one : Room 1 d
-  room_for_one = let room = passing.room in (omega (arith, long), omega (arith, long), omega (arith, long), omega (arith, long))
 
   next_sum : (f : OrderTerms → ℕ) → sum_by f ahead ≡ f o + sum_by f rest
   next_sum f = ap (sum_by f) step ∙ sum_by-cons f o rest
@@ -78,21 +63,3 @@ pass_ends p ahead os d none passing =
     (omega (arith, passing.sold, nothing (sell_shares p)))
     (omega (arith, passing.above, nothing (buy_shares_above p)))
     (omega (arith, passing.below, nothing (sell_shares_below p)))
-
--- ---- counting prices first, or counting as one goes
-
-fold_ranged : (lo hi : ℕ) (f : OrderTerms → ℕ) (n : ℕ) (os : List OrderTerms)
-    → fold (λ m o. m + f o) n (ranged lo hi os) ≡ fold (λ m o. m + f (counted lo hi o)) n os
-fold_ranged lo hi f n [] = refl
-fold_ranged lo hi f n (o ∷ os) = fold_ranged lo hi f (n + f (counted lo hi o)) os
-
-sum_ranged : (lo hi : ℕ) (f : OrderTerms → ℕ) (os : List OrderTerms) → sum_by f (ranged lo hi os) ≡ sum_by (λ o. f (counted lo hi o)) os
-sum_ranged lo hi f os = fold_ranged lo hi f 0 os
-
-pub depth_ranged : (lo hi p : ℕ) (os : List OrderTerms) → depth_by_limits p (ranged lo hi os) ≡ depth_at lo hi p os
-depth_ranged lo hi p os =
-    same_depth (depth_by_limits p (ranged lo hi os)) (depth_at lo hi p os)
-    (sum_ranged lo hi (buy_shares p) os)
-    (sum_ranged lo hi (sell_shares p) os)
-    (sum_ranged lo hi (buy_shares_above p) os)
-    (sum_ranged lo hi (sell_shares_below p) os)
