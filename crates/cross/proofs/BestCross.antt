@@ -1,6 +1,6 @@
 -- The fills at the clearing price, by a lawful ranking, are the best cross: no cross executes more than both sides are
 -- willing at its price, and what is ahead of a better-priced order is better-priced too, so that it is filled whole.
-use Rattle.std.proofs.Common.{◌≡◌, ℕ, zero, suc, ◌+◌, ◌<◌, ◌≤◌, min, Bool, true, cond, ◌&&◌, eqb, ◌⊎◌, List, [], ◌∷◌, length, sum_by, refl, ◌∙◌, arith}
+use Rattle.std.proofs.Common.{◌≡◌, ℕ, zero, suc, ◌+◌, ◌<◌, ◌≤◌, min, Bool, true, cond, ◌&&◌, eqb, ◌⊎◌, List, length, sum_by, refl, ◌∙◌, arith}
 use Rattle.std.proofs.lemmas.List.FromFn.{length-range_with_len, get_or-range_with_len}
 use Rattle.std.proofs.lemmas.List.Sums.{get_or-le-sum_by, sum_by-cons}
 use Rattle.std.proofs.lemmas.Bool.Decides.{nat_tests}

@@ -1,18 +1,17 @@
 -- What the fills by a ranking come to: those of a side add up to the shares executed, or to all its willing shares
 -- where these are fewer, and no order has a share before each one ahead of it is filled whole.
-use Rattle.std.proofs.Common.{◌≡◌, ℕ, ◌+◌, ◌<◌, ◌≤◌, min, Bool, true, false, cond, ◌&&◌, leb, List, length, sym, refl, ap, ◌∙◌, arith}
+use Rattle.std.proofs.Common.{◌≡◌, ℕ, ◌+◌, ◌<◌, ◌≤◌, min, Bool, true, false, cond, ◌&&◌, List, length, sym, refl, ap, ◌∙◌, arith}
 use Rattle.std.proofs.lemmas.Bool.{false≢true, and_parts}
 use Rattle.std.proofs.lemmas.Bool.Decides.{nat_tests}
 use Rattle.market.specs.declared.order.Side.{Side}
 use Rattle.market.specs.declared.order.Side.TheVariants.{Buy, Sell}
 use Rattle.market.specs.declared.order.OrderTerms.{OrderTerms}
 use Rattle.cross.specs.Crosses.{Fair}
-use Rattle.cross.specs.Depth.{buys, sells, bought, sold, counts_at, willing_buy, willing_sell}
-use Rattle.cross.specs.Fills.{ahead, at_place, fill, filled, no_order, places, shares_ahead, willing, willing_at}
+use Rattle.cross.specs.Fills.{ahead, at_place, fill, filled, places, shares_ahead, willing}
 use Rattle.cross.specs.Queues.{asks}
 use Rattle.cross.specs.Rankings.{Laws, same_side}
 use Rattle.cross.proofs.InTurn.{Chain, all_given, asked_before, gets}
-use Rattle.cross.proofs.PlaceSums.{more_at_place, same_sums, sum_over_list}
+use Rattle.cross.proofs.PlaceSums.{more_at_place, same_sums}
 
 -- ---- one side
 

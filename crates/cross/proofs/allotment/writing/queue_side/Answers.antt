@@ -1,7 +1,7 @@
 -- The orders of a side, a place at a time.
 use Rattle.std.proofs.Common.{◌≡◌, true, false, refl, arith, rules}
 use Rattle.cross.specs.Rankings.{same_side}
-use Rattle.cross.proofs.Queueing.{few_queued, place_within, queueing_begins, queueing_ends, queues_none, queues_one}
+use Rattle.cross.proofs.Queueing.{few_queued, place_within, queueing_ends, queues_none, queues_one}
 use Rattle.cross.proofs.allotment.writing.queue_side.Goals as goal
 use Rattle.cross.proofs.allotment.writing.queue_side.Goals.{then-eq, else-eq}
 
