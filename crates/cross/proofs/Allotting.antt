@@ -1,17 +1,16 @@
 -- The places and the records of a side: how many there are, writing them a place at a time, and how the two sides make up the list.
-use Rattle.std.proofs.Common.{◌≡◌, ℕ, zero, suc, ◌+◌, ◌-◌, ◌<◌, ◌≤◌, Bool, true, false, cond, not, List, [], ◌∷◌, ◌++◌, length, take, drop, filter, sym, refl, ap, ◌∙◌, subst, inl, inr, arith, map, get_or, set}
+use Rattle.std.proofs.Common.{◌≡◌, ℕ, ◌+◌, ◌-◌, ◌≤◌, Bool, true, false, cond, not, List, [], ◌∷◌, ◌++◌, length, take, drop, filter, sym, refl, ap, ◌∙◌, arith}
 use borrow.Rule.Slice.PartMut.{put_mid}
 use Rattle.std.proofs.lemmas.List.FromFn.{length-range_with_len, map-range_with_len_more}
 use Rattle.std.proofs.lemmas.List.Elements.{filter-append}
 use Rattle.std.proofs.lemmas.List.Filters.{length-filter_both}
-use Rattle.std.proofs.lemmas.List.{append-nil, drop_all, drop_at, drop-drop, length-append, length-drop, length-map, map-id, take_all, take_at, append_assoc, drop_more, map-append, set_at}
-use Rattle.std.proofs.lemmas.Bool.{cases_eq}
+use Rattle.std.proofs.lemmas.List.{append-nil, drop_all, drop_at, drop-drop, length-append, length-drop, length-map, map-id, take_all, take_at, take_rest, append_assoc}
 use Rattle.std.specs.List.{range_with_len}
 use Rattle.market.specs.declared.order.Side.{Side}
 use Rattle.market.specs.declared.order.Side.TheVariants.{Buy, Sell}
 use Rattle.market.specs.declared.order.OrderTerms.{OrderTerms}
 use Rattle.cross.specs.declared.allotment.Allotment.{Allotment}
-use Rattle.cross.specs.Allotments.{allotment, allotments, allotted, side_allotments, side_places}
+use Rattle.cross.specs.Allotments.{allotment, allotments, allotted, side_allotments, side_count, side_places}
 use Rattle.cross.specs.Fills.{at_place}
 use Rattle.cross.specs.Rankings.{same_side}
 
@@ -32,27 +31,8 @@ module _ (side : Side) (os : List OrderTerms) where
   pub places_left : (k : ℕ) → mine k ≡ false → side_places side os (k + 1) ≡ side_places side os k
   places_left k e = places_more k ∙ (ap (λ b. side_places side os k ++ cond b (k ∷ []) []) e ∙ append-nil (side_places side os k))
 
-  -- among more places there are no fewer of a side
-  pub places_rise : (n k : ℕ) → k ≤ n → length (side_places side os k) ≤ length (side_places side os n)
-  places_rise zero k h = let e : k ≡ 0 = omega arith in rw e (omega arith)
-  places_rise (suc n) k h =
-      elim (cases_eq k (suc n)) [
-        | inl e ↦ rw e (omega arith)
-        | inr e ↦
-            let next : suc n ≡ n + 1 = omega arith in
-            let more = ap length (places_more n) ∙ length-append (side_places side os n) (cond (mine n) (n ∷ []) []) in
-            subst (λ m. length (side_places side os k) ≤ length (side_places side os m)) (sym next)
-            (omega (arith, places_rise n k (omega arith), more))
-      ]
-
   pub places_within : (k : ℕ) → length (side_places side os k) ≤ k
   places_within k = omega (arith, length-filter_both mine (λ i. not (mine i)) (λ _. refl) (range_with_len 0 k), length-range_with_len 0 k)
-
-  -- there is a place in the list for one more of the side
-  pub room : (n k w len : ℕ) → k < n → mine k ≡ true → w ≡ length (side_places side os k) → length (side_places side os n) ≤ len → w < len
-  room n k w len h e q l =
-      let took = ap length (places_took k e) ∙ length-append (side_places side os k) (k ∷ []) in
-      omega (arith, places_rise n (k + 1) (omega arith), took, q, l)
 
   pub took_length : (k : ℕ) → mine k ≡ true → length (side_places side os (k + 1)) ≡ length (side_places side os k) + 1
   took_length k e = ap length (places_took k e) ∙ length-append (side_places side os k) (k ∷ [])
@@ -100,3 +80,19 @@ rear_written front rear l w part n k m e w_is k_is part_is =
     let z : drop k (drop n l) ≡ [] = drop_all k (drop n l) len in
     let d : drop m (drop n l) ≡ drop (n + m) l = drop-drop m n l in
     simp (a, part_is, b, t, z, d, append-nil)
+
+-- the sells, written at the front of the rear part, make the list whole
+pub both_written : (os : List OrderTerms) (fill : ℕ → ℕ) (l w part : List Allotment) (n m : ℕ) → n ≡ side_count Buy os → m ≡ side_count Sell os
+    → w ≡ side_allotments Buy os fill (length os) ++ drop n l
+    → part ≡ side_allotments Sell os fill (length os) ++ drop m (take (length w - n) (drop n w))
+    → put_mid n (length w - n) w part ≡ allotted os fill l
+both_written os fill l w part n m buys sells w_is part_is =
+    let front = side_allotments Buy os fill (length os) in
+    let rear = side_allotments Sell os fill (length os) in
+    rear_written front rear l w part n (length w - n) m (length_allotments Buy os fill (length os) ∙ sym buys) w_is refl part_is
+    ∙ (ap (λ k. front ++ (rear ++ drop k l)) (omega (arith, sides_all os, buys, sells)) ∙ sym (append_assoc front rear (drop (length os) l)))
+
+-- and they have room there
+pub sells_fit : (os : List OrderTerms) (l : List Allotment) (n : ℕ) → n ≡ side_count Buy os → length os ≤ length l
+    → side_count Sell os ≤ length (take (length l - n) (drop n l))
+sells_fit os l n buys h = rw (take_rest l n) (omega (arith, length-drop n l, sides_all os, buys))

@@ -1,6 +1,6 @@
 -- The fills at the clearing price, by a lawful ranking, are the best cross: no cross executes more than both sides are
 -- willing at its price, and what is ahead of a better-priced order is better-priced too, so that it is filled whole.
-use Rattle.std.proofs.Common.{◌≡◌, ℕ, zero, suc, ◌+◌, ◌<◌, ◌≤◌, min, Bool, true, cond, ◌&&◌, eqb, ◌⊎◌, List, [], ◌∷◌, length, sum_by, refl, arith}
+use Rattle.std.proofs.Common.{◌≡◌, ℕ, zero, suc, ◌+◌, ◌<◌, ◌≤◌, min, Bool, true, cond, ◌&&◌, eqb, ◌⊎◌, List, length, sum_by, refl, ◌∙◌, arith}
 use Rattle.std.proofs.lemmas.List.FromFn.{length-range_with_len, get_or-range_with_len}
 use Rattle.std.proofs.lemmas.List.Sums.{get_or-le-sum_by, sum_by-cons}
 use Rattle.std.proofs.lemmas.Bool.Decides.{nat_tests}
@@ -11,14 +11,17 @@ use Rattle.market.specs.declared.order.OrderTerms.{OrderTerms}
 use Rattle.cross.specs.Clearing.{distance, candidates, clearing_price}
 use Rattle.cross.specs.Crosses.{Best, IsCross, LeavesNone, executes}
 use Rattle.cross.specs.Depth.{bought, bought_above, executed, shares_of, sold, sold_below}
-use Rattle.cross.specs.Fills.{ahead, at_place, better_priced, fill, filled, shares_ahead, willing}
+use Rattle.cross.specs.Fills.{ahead, at_place, better_priced, fill, filled, no_order, shares_ahead, willing}
 use Rattle.cross.specs.Rankings.{Laws, same_side}
+use Rattle.cross.proofs.PlaceSums.{sum_over_list}
 use Rattle.cross.proofs.PriceLists.{Before, nearest_of_any, nearest_of_before}
 use Rattle.cross.proofs.ThreeSteps.{
   BuysServed,
   SellsServed,
   meets,
   meets_only,
+  Meets,
+  Within,
   candidates_within,
   candidates_meet,
   candidates_rise,
@@ -27,16 +30,6 @@ use Rattle.cross.proofs.ThreeSteps.{
 }
 
 -- ---- sums over places
-
--- what the places give is what the orders give
-sum_of_orders : (f : ℕ → ℕ) (g : OrderTerms → ℕ) (os : List OrderTerms) (a : ℕ)
-    → ((i j : ℕ) → a + i ≡ j → f j ≡ g (at_place os i))
-    → sum_by f (range_with_len a (length os)) ≡ sum_by g os
-sum_of_orders f g [] a same = refl
-sum_of_orders f g (o ∷ os) a same =
-    let this = same 0 a (omega arith) in
-    let rest = sum_of_orders f g os (a + 1) (λ i j e. same (suc i) j (omega arith)) in
-    rw (sum_by-cons f a (range_with_len (a + 1) (length os)), sum_by-cons g o os) (omega arith)
 
 -- two sums are within a third where they are at each place
 sums_within : (f g h : ℕ → ℕ) (a n : ℕ) → ((i : ℕ) → i < a + n → f i + g i ≤ h i)
@@ -78,8 +71,9 @@ module _ (lo hi : ℕ) (os : List OrderTerms) where
   passing_shares : (side : Side) (t u : OrderTerms → Bool) → ((o : OrderTerms) → u o ≡ (same_side side o.side && t o))
       → filled side os (passing t) ≡ shares_of lo hi u os
   passing_shares side t u same =
-      sum_of_orders _ _ os 0
-      (λ i j e. let at : i ≡ j = omega arith in let this = same (at_place os i) in rw at (grind arith))
+      let one : (o : OrderTerms) → cond (same_side side o.side) (cond (t o) o.shares 0) 0 ≡ cond (u o) o.shares 0
+      = λ o. let this = same o in grind arith in
+      sum_over_list (λ o. cond (same_side side o.side) (cond (t o) o.shares 0) 0) os no_order ∙ (λ i. sum_by (λ o. one o i) os)
 
   pub willing_shares : (side : Side) (p : ℕ) → filled side os (passing (willing lo hi p)) ≡ depth side p
   willing_shares Buy p = passing_shares Buy (willing lo hi p) _ (λ o. grind arith)
@@ -229,7 +223,7 @@ module _ (lo hi : ℕ) (os : List OrderTerms) where
       let p = clearing_price lo hi t os in
       let cs = candidates lo hi os in
       let some = candidates_some lo hi os o in
-      let within = nearest_of_any _ t cs some (candidates_within lo hi os) in
-      let meets = nearest_of_any _ t cs some (candidates_meet lo hi os) in
+      let within = nearest_of_any (Within lo hi os) t cs some (candidates_within lo hi os) in
+      let meets = nearest_of_any (Meets lo hi os) t cs some (candidates_meet lo hi os) in
       let first = nearest_of_before t cs (candidates_rise lo hi os) in
       fills_best good laws p sums within.0 within.1 meets.0 meets.1 t (at_candidate lo hi os (Before t p) first)

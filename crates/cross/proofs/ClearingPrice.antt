@@ -10,6 +10,8 @@ use Rattle.cross.proofs.PriceLists.{Before, before_both, nearest_of_any, nearest
 use Rattle.cross.proofs.ThreeSteps.{
   BuysServed,
   SellsServed,
+  Within,
+  Meets,
   candidates_within,
   candidates_meet,
   candidates_rise,
@@ -76,8 +78,8 @@ module _ (lo hi : ℕ) (os : List OrderTerms) where
       let cs = candidates lo hi os in
       let c = clearing_price lo hi t os in
       let some = candidates_some lo hi os o in
-      let within = nearest_of_any _ t cs some (candidates_within lo hi os) in
-      let meets = nearest_of_any _ t cs some (candidates_meet lo hi os) in
+      let within = nearest_of_any (Within lo hi os) t cs some (candidates_within lo hi os) in
+      let meets = nearest_of_any (Meets lo hi os) t cs some (candidates_meet lo hi os) in
       let first = nearest_of_before t cs (candidates_rise lo hi os) in
       before_both t c p
       (at_candidate lo hi os (Before t c) first p l h b s)

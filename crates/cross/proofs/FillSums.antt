@@ -1,17 +1,17 @@
 -- What the fills by a ranking come to: those of a side add up to the shares executed, or to all its willing shares
 -- where these are fewer, and no order has a share before each one ahead of it is filled whole.
-use Rattle.std.proofs.Common.{◌≡◌, ℕ, ◌+◌, ◌<◌, ◌≤◌, min, Bool, true, false, cond, ◌&&◌, leb, List, length, sym, refl, ap, ◌∙◌, arith}
+use Rattle.std.proofs.Common.{◌≡◌, ℕ, ◌+◌, ◌<◌, ◌≤◌, min, Bool, true, false, cond, ◌&&◌, List, length, sym, refl, ap, ◌∙◌, arith}
 use Rattle.std.proofs.lemmas.Bool.{false≢true, and_parts}
 use Rattle.std.proofs.lemmas.Bool.Decides.{nat_tests}
 use Rattle.market.specs.declared.order.Side.{Side}
 use Rattle.market.specs.declared.order.Side.TheVariants.{Buy, Sell}
 use Rattle.market.specs.declared.order.OrderTerms.{OrderTerms}
 use Rattle.cross.specs.Crosses.{Fair}
-use Rattle.cross.specs.Depth.{buys, sells, bought, sold, counts_at, willing_buy, willing_sell}
-use Rattle.cross.specs.Fills.{ahead, at_place, fill, filled, no_order, places, shares_ahead, willing, willing_at}
+use Rattle.cross.specs.Fills.{ahead, at_place, fill, filled, places, shares_ahead, willing}
+use Rattle.cross.specs.Queues.{asks}
 use Rattle.cross.specs.Rankings.{Laws, same_side}
 use Rattle.cross.proofs.InTurn.{Chain, all_given, asked_before, gets}
-use Rattle.cross.proofs.PlaceSums.{more_at_place, same_sums, sum_over_list}
+use Rattle.cross.proofs.PlaceSums.{more_at_place, same_sums}
 
 -- ---- one side
 
@@ -25,34 +25,6 @@ pub same_side_both : (s t u : Side) → same_side s t ≡ true → same_side s u
 same_side_both s t u a b = rw (sym (same_side_is s t a)) b
 
 module _ (lo hi : ℕ) where
-  -- ---- the willing shares of a side, by place and in the list
-
-  abbrev pub willing_shares : ℕ → OrderTerms → ℕ
-  willing_shares p o = cond (willing lo hi p o) o.shares 0
-
-  willing_buys : (p x c : ℕ) (s : Side)
-      → cond (same_side Buy s) (cond (willing_at lo hi p s c) x 0) 0 ≡ cond (buys s && leb p c) x 0
-  willing_buys p x c Buy = refl
-  willing_buys p x c Sell = refl
-
-  willing_sells : (p x c : ℕ) (s : Side)
-      → cond (same_side Sell s) (cond (willing_at lo hi p s c) x 0) 0 ≡ cond (sells s && leb c p) x 0
-  willing_sells p x c Buy = refl
-  willing_sells p x c Sell = refl
-
-  module _ (os : List OrderTerms) where
-    pub willing_bought : (p : ℕ) → filled Buy os (λ i. willing_shares p (at_place os i)) ≡ bought lo hi os p
-    willing_bought p =
-        same_sums _ _ 0 (length os)
-        (λ i _. let o = at_place os i in willing_buys p o.shares (counts_at lo hi o) o.side)
-        ∙ sum_over_list (λ o. cond (willing_buy lo hi p o) o.shares 0) os no_order
-
-    pub willing_sold : (p : ℕ) → filled Sell os (λ i. willing_shares p (at_place os i)) ≡ sold lo hi os p
-    willing_sold p =
-        same_sums _ _ 0 (length os)
-        (λ i _. let o = at_place os i in willing_sells p o.shares (counts_at lo hi o) o.side)
-        ∙ sum_over_list (λ o. cond (willing_sell lo hi p o) o.shares 0) os no_order
-
   module _ (good : OrderTerms → OrderTerms → Bool) (laws : Laws good) (os : List OrderTerms) where
     -- ---- who is ahead
 
@@ -129,7 +101,7 @@ module _ (lo hi : ℕ) where
       gets_fill j = let asked = ahead_served j in grind arith
 
       pub fills_sum : filled side os (fill lo hi good os p e)
-          ≡ min e (filled side os (λ i. willing_shares p (at_place os i)))
+          ≡ min e (filled side os (λ i. asks lo hi p (at_place os i)))
       fills_sum =
           same_sums _ _ 0 (length os) (λ j _. gets_fill j)
           ∙ all_given shares_at before never_itself onward served served_chain 0 (length os) e

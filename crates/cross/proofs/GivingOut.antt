@@ -1,8 +1,8 @@
 -- Shares given out along a queue: where each order gets what a rule says, and each record is one of the queue's, the
 -- list holds the records of the rule.
-use Rattle.std.proofs.Common.{◌≡◌, ℕ, suc, ◌+◌, ◌-◌, ◌<◌, ◌≤◌, min, List, [], ◌∷◌, ◌++◌, length, get_or, take, drop, set, sum_by, sym, refl, ap, ◌∙◌, inl, inr, arith}
+use Rattle.std.proofs.Common.{◌≡◌, ℕ, suc, ◌-◌, ◌<◌, ◌≤◌, min, List, [], ◌∷◌, ◌++◌, length, get_or, take, drop, set, sum_by, sym, refl, ap, ◌∙◌, inl, inr, arith}
 use Rattle.std.proofs.lemmas.List.Elements.{All-contains, All-cons, All-head, All-nil, All-tail, All-weaker}
-use Rattle.std.proofs.lemmas.List.{at_drop_more, drop-set-lt, ext_get_or, get_or-set_other, get_or-set_same, get_or-take, length-set, length-take-le, take-append-drop}
+use Rattle.std.proofs.lemmas.List.{drop-set-lt, ext_get_or, get_or-set_other, get_or-set_same, get_or-take, length-set, length-take-le, take-append-drop}
 use Rattle.std.proofs.lemmas.List.Sums.{sum_by-cons}
 use Rattle.std.proofs.lemmas.Bool.{cases_eq}
 use Rattle.std.specs.List.{All, Contains}
@@ -18,18 +18,6 @@ module _ (ask : OrderTerms → ℕ) where
 
   abbrev out : List Queued → ℕ → List Allotment → List Allotment
   out = given_out ask
-
-  -- one turn of the walk, at the order that is next
-  pub turned : (queue : List Queued) (i e v : ℕ) (l end : List Allotment) (q : Queued) → i < length queue → q ≡ get_or queue i q → v ≡ min (asked q) e
-      → out (drop i queue) e l ≡ end
-      → out (drop (i + 1) queue) (e - v) (set l q.slot (record { place = q.place; fill = v })) ≡ end
-  turned queue i e v l end q h is gets inv =
-      let rest = drop (i + 1) queue in
-      let next : out (drop i queue) e l ≡ out (q ∷ rest) e l
-      = at_drop_more (λ qs. out qs e l) queue i q h ∙ ap (λ x. out (x ∷ rest) e l) (sym is) in
-      let left : e - v ≡ e - asked q = omega arith in
-      ap (λ n. out rest n (set l q.slot (record { place = q.place; fill = v }))) left
-      ∙ (ap (λ n. out rest (e - asked q) (set l q.slot (record { place = q.place; fill = n }))) gets ∙ (sym next ∙ inv))
 
   -- the list keeps its length, and what lies past the records
   pub length_out : (qs : List Queued) (e : ℕ) (l : List Allotment) → length (out qs e l) ≡ length l

@@ -1,6 +1,7 @@
 -- In a sorted queue of a side what stands before an order is what is ahead of it, so that shares given out along the
 -- queue are the fills.
 use Rattle.std.proofs.Common.{◌≡◌, ℕ, zero, suc, ◌+◌, ◌-◌, ◌*◌, ◌<◌, ◌≤◌, min, Bool, true, false, cond, ◌&&◌, eqb, List, [], ◌∷◌, ◌++◌, map, length, get_or, take, drop, sum_by, filter, sym, refl, ap, ◌∙◌, arith}
+use Rattle.std.proofs.lemmas.List.Folds.{fold-map}
 use Rattle.std.proofs.lemmas.List.Elements.{All-head, All-tail, Contains-get_or}
 use Rattle.std.proofs.lemmas.List.{get_or_default, get_or-drop, get_or-map, get_or-take, length-drop, length-map, length-take-le}
 use Rattle.std.proofs.lemmas.List.Sorted.{All-permutation, Contains-permutation, sorted_far, length_permutation, sum_by-IsPermutation}
@@ -33,10 +34,6 @@ sums_agree f g [] a = refl
 sums_agree f g (x ∷ xs) a =
     rw (sum_by-cons f x xs, sum_by-cons g x xs)
     (omega (arith, All-head (λ x. f x ≡ g x) x xs a, sums_agree f g xs (All-tail (λ x. f x ≡ g x) x xs a)))
-
-sum_along : {X Y : Type 0} (f : X → Y) (g : Y → ℕ) (xs : List X) → sum_by (λ x. g (f x)) xs ≡ sum_by g (map f xs)
-sum_along f g [] = refl
-sum_along f g (x ∷ xs) = rw (sum_by-cons (λ x. g (f x)) x xs, sum_by-cons g (f x) (map f xs)) (omega (arith, sum_along f g xs))
 
 sum_kept : {X : Type 0} (test : X → Bool) (f : X → ℕ) (xs : List X) → sum_by f (filter test xs) ≡ sum_by (λ x. cond (test x) (f x) 0) xs
 sum_kept test f [] = refl
@@ -114,7 +111,7 @@ module _ (good : OrderTerms → OrderTerms → Bool) (laws : Laws good) (side : 
       sum_by_place : (f : ℕ → ℕ) → sum_by (λ q. f q.place) qs ≡ sum_by (λ i. cond (same_side side (at_place os i).side) (f i) 0) (range_with_len 0 n)
       sum_by_place f =
           sum_by-IsPermutation (λ q. f q.place) queue qs moved
-          ∙ (sum_along (λ q. q.place) f queue ∙ (ap (sum_by f) of.places ∙ sum_kept (λ i. same_side side (at_place os i).side) f (range_with_len 0 n)))
+          ∙ (sym (fold-map (λ n i. n + f i) (λ (q : Queued). q.place) 0 queue) ∙ (ap (sum_by f) of.places ∙ sum_kept (λ i. same_side side (at_place os i).side) f (range_with_len 0 n)))
 
       apart : (i j : ℕ) (d : Queued) → i < j → j < length qs → (get_or qs i d).place ≡ (get_or qs j d).place → ⊥
       apart i j d l h e =

@@ -1,12 +1,12 @@
 -- The first two steps, which come to two tests on a price: the better-priced shares of either side find shares of
 -- the other. Some price of the range meets both.
-use Rattle.std.proofs.Common.{◌≡◌, ℕ, zero, suc, ◌+◌, ◌-◌, ◌<◌, ◌≤◌, Bool, true, ◌&&◌, leb, List, [], sym, refl, subst, inl, inr, arith}
-use Rattle.std.proofs.ByRecursion.{all_kept_by, All-weaker, kept_by_passes}
+use Rattle.std.proofs.Common.{◌≡◌, ℕ, zero, suc, ◌+◌, ◌-◌, ◌<◌, ◌≤◌, Bool, true, ◌&&◌, leb, nat_eq, List, [], sym, refl, subst, inl, inr, arith}
+use Rattle.std.proofs.lemmas.List.Elements.{All-filter, All-nil, All-weaker, filter_passes}
 use Rattle.std.proofs.lemmas.Bool.{cases_lt, cases_order, and_parts, and_from, leb-true, le-leb, eq-eqb}
-use Rattle.std.specs.List.{AllByRecursion as All}
+use Rattle.std.specs.List.{All}
 use Rattle.market.specs.declared.order.OrderTerms.{OrderTerms}
 use Rattle.cross.specs.Depth.{bought, sold, executed, bought_above, sold_below}
-use Rattle.cross.specs.Clearing.{prices, most_executed, candidates}
+use Rattle.cross.specs.Clearing.{prices, most_executed, candidates, largest}
 use Rattle.cross.proofs.DepthSums.{
   above_next,
   below_next,
@@ -91,8 +91,11 @@ module _ (lo hi : ℕ) (os : List OrderTerms) where
 
   -- ---- the candidates
 
-  pub candidates_within : All (λ p. (lo ≤ p) × (p ≤ hi)) (candidates lo hi os)
-  candidates_within = all_kept_by _ _ _ (all_kept_by _ _ _ (all_in_range _ lo hi (λ q l h. (l, h))))
+  abbrev pub Within : ℕ → Type 0
+  Within p = (lo ≤ p) × (p ≤ hi)
+
+  pub candidates_within : All Within (candidates lo hi os)
+  candidates_within = All-filter _ Within _ (All-filter _ Within _ (all_in_range Within lo hi (λ q l h. (l, h))))
 
   -- the test of the second step
   abbrev served : ℕ → Bool
@@ -103,10 +106,13 @@ module _ (lo hi : ℕ) (os : List OrderTerms) where
       let parts = and_parts _ _ t in
       meets_only p (leb-true _ _ parts.0) (leb-true _ _ parts.1)
 
-  pub candidates_meet : All (λ p. BuysServed p × SellsServed p) (candidates lo hi os)
+  abbrev pub Meets : ℕ → Type 0
+  Meets p = BuysServed p × SellsServed p
+
+  pub candidates_meet : All Meets (candidates lo hi os)
   candidates_meet =
-      All-weaker _ _ served_meets (candidates lo hi os)
-      (kept_by_passes served (most_executed (executed lo hi os) (prices lo hi)))
+      All-weaker (λ p. served p ≡ true) Meets served_meets (candidates lo hi os)
+      (filter_passes served (most_executed (executed lo hi os) (prices lo hi)))
 
   pub candidates_rise : Rising (candidates lo hi os)
   candidates_rise = kept_rises _ _ (kept_rises _ _ (prices_rise lo hi))
@@ -117,13 +123,14 @@ module _ (lo hi : ℕ) (os : List OrderTerms) where
   at_candidate P c p l h b s =
       let e = executed lo hi os in
       let m = meets p l h b s in
-      let some = in_range _ lo hi (largest_most e (prices lo hi)) p l h in
-      let all = largest_least e (e p) (prices lo hi) (all_in_range _ lo hi m.0) in
-      in_range _ lo hi (all_unkept _ _ (prices lo hi) (all_unkept _ P _ c)) p l h
+      let some : e p ≤ largest e (prices lo hi) = in_range (λ q. e q ≤ largest e (prices lo hi)) lo hi (largest_most e (prices lo hi)) p l h in
+      let all = largest_least e (e p) (prices lo hi) (all_in_range (λ q. e q ≤ e p) lo hi m.0) in
+      let IfServed : ℕ → Type 0 = λ q. served q ≡ true → P q in
+      in_range (λ q. nat_eq (e q) (largest e (prices lo hi)) ≡ true → IfServed q) lo hi (all_unkept _ IfServed (prices lo hi) (all_unkept served P _ c)) p l h
       (eq-eqb _ _ (omega arith))
       (and_from _ _ (le-leb _ _ m.1) (le-leb _ _ m.2))
 
   pub candidates_some : lo ≤ hi → candidates lo hi os ≡ [] → ⊥
   candidates_some r e =
       let f = some_price r in
-      at_candidate (λ _. ⊥) (subst (All (λ _. ⊥)) (sym e) tt) f.0 f.1 f.2 f.3 f.4
+      at_candidate (λ _. ⊥) (subst (All (λ _. ⊥)) (sym e) (All-nil (λ _. ⊥))) f.0 f.1 f.2 f.3 f.4

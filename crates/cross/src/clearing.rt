@@ -31,6 +31,7 @@ fn first_served<B: Book + Drop>(ranged: &Ranged<B>, side: Side, from: Price, to:
     ensures served { served_in B.Book.orders ranged.now side result.cents ≡ true }
     ensures first { First (served_in B.Book.orders ranged.now side) from.cents to.cents result.cents }
 {
+    // The library's `partition_point` searches a slice, and no slice holds the prices.
     let mut unserved = from;
     let mut found = to;
     while found.cents.abs_diff(unserved.cents) > 1 {

@@ -18,6 +18,7 @@ fn queue_side<B: Book>(book: &B, side: Side, queue: &mut [Queued]) -> usize
     ensures count { result ≡ side_count side (B.Book.orders book.now) }
     ensures queued { Queue side (B.Book.orders book.now) (length (B.Book.orders book.now)) (take result queue.new) }
 {
+    // A count beside an array: see `allot`.
     let mut count = 0;
     for (place, order) in book.iter().enumerate() {
         if order.terms.side == side {

@@ -1,20 +1,9 @@
 -- The orders of a side, a place at a time.
 use Rattle.std.proofs.Common.{◌≡◌, true, false, refl, arith, rules}
 use Rattle.cross.specs.Rankings.{same_side}
-use Rattle.cross.proofs.Queueing.{few_queued, place_within, queueing_begins, queueing_ends, queues_none, queues_one}
+use Rattle.cross.proofs.Queueing.{few_queued, place_within, queueing_ends, queues_none, queues_one}
 use Rattle.cross.proofs.allotment.writing.queue_side.Goals as goal
 use Rattle.cross.proofs.allotment.writing.queue_side.Goals.{then-eq, else-eq}
-
-pub loop-place-init : goal.loop-place-init
-loop-place-init g c = record {
-  can_next = search rules;
-  ends = search rules;
-  queueing = queueing_begins c.args.side _ _ c.args.queue.now c.iter-order-items.ensures;
-}
-
-pub overflow_step-place : goal.overflow_step-place
-overflow_step-place g c =
-    omega (arith, place_within _ _ _ _ _ _ _ _ c.in-Some.ensures.steps c.loop-place.invariant.queueing, g.B.Book.short c.args.book.now)
 
 pub bounds-queue-count : goal.bounds-queue-count
 bounds-queue-count g c =
@@ -24,15 +13,6 @@ bounds-queue-count g c =
       few_queued _ _ _ _ _ _ _ _ c.in-Some.ensures.steps c.loop-place.invariant.queueing,
       c.loop-place.auto.queue,
       c.requires
-    )
-
-pub offset_bounds-queue-count : goal.offset_bounds-queue-count
-offset_bounds-queue-count g c =
-    omega (
-      arith,
-      place_within _ _ _ _ _ _ _ _ c.in-Some.ensures.steps c.loop-place.invariant.queueing,
-      few_queued _ _ _ _ _ _ _ _ c.in-Some.ensures.steps c.loop-place.invariant.queueing,
-      g.B.Book.short c.args.book.now
     )
 
 pub loop-place-preserved : goal.loop-place-preserved

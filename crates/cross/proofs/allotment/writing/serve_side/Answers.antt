@@ -1,5 +1,5 @@
 -- The queue of a side has a record for each of its orders.
-use Rattle.std.proofs.Common.{◌≡◌, ◌-◌, ◌≤◌, length, take, arith, rules}
+use Rattle.std.proofs.Common.{◌≡◌, length, take, arith}
 use Rattle.std.proofs.lemmas.List.{length-take-le}
 use Rattle.cross.proofs.Allotting.{places_within}
 use Rattle.cross.proofs.Queueing.{slots_within}
