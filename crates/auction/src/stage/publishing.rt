@@ -58,7 +58,7 @@ impl<S: Publishes> Auction<S> {
         ensures cause { verdict result ≡ refusal (call_cause (auction_of S.stage self.old book.now) time publish) }
         ensures after { MatchResult result (λ f. (f ≡ published (auction_of S.stage self.old book.now) (F.Book.orders filed.now)) × (auction_of S.stage self.new book.now ≡ moved (auction_of S.stage self.old book.now) time S.stage)) (λ _. self.new ≡ self.old) }
     {
-        self.progress.check_time(time, 0, DAY_END)?;
+        self.progress.check_time(time, 0..DAY_END)?;
         let figures = self.progress.figures_of(book, filed);
         self.progress.last_time = time;
         Ok(figures)

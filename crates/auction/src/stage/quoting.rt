@@ -19,7 +19,7 @@ impl<S: TakesQuotes> Auction<S> {
         ensures cause { verdict result ≡ refusal (call_cause (auction_of S.stage self.old book.now) time (quote (cents_of new.bid) (cents_of new.offer))) }
         ensures after { MatchResult result (λ _. auction_of S.stage self.new book.now ≡ quoted (auction_of S.stage self.old book.now) time (cents_of new.bid) (cents_of new.offer)) (λ _. self.new ≡ self.old) }
     {
-        self.progress.check_time(time, 0, DAY_END)?;
+        self.progress.check_time(time, 0..DAY_END)?;
         self.progress.last_time = time;
         self.progress.quote = new;
         Ok(())
