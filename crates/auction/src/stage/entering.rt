@@ -34,15 +34,7 @@ impl<S: TakesOrders> Auction<S> {
         if order.terms.entry <= self.progress.last_entry {
             return Err(Refusal::EntryNumber);
         }
-        if S::IN_COLLAR
-            && is_beyond(
-                self.progress
-                    .quote
-                    .reference_range(self.progress.last_sale)
-                    .collar(),
-                order,
-            )
-        {
+        if S::IN_COLLAR && is_beyond(self.progress.reference_range().collar(), order) {
             return Err(Refusal::OutsideCollar);
         }
         if book.count() >= MOST_ACCEPTED {

@@ -25,7 +25,7 @@ impl Progress {
     fn figures_of<F: Book>(&self, book: &AuctionBook, filed: &F) -> Figures
         ensures { result ≡ published (auction_at in_shut self.now (accepted book.now)) (F.Book.orders filed.now) }
     {
-        let range = self.quote.reference_range(self.last_sale);
+        let range = self.reference_range();
         let twice = range.twice_middle();
         let collar = range.collar();
         let reference = clearing_price(book, range, twice);

@@ -1,17 +1,27 @@
-//! Setting the quote.
+//! The quote, and the range around it.
 
 ghost use Rattle.std.specs.Prelude.{◌≡◌, MatchResult};
 ghost use Rattle.market.specs.Calls.{quote};
-ghost use Rattle.market.specs.Ranges.{cents_of};
+ghost use Rattle.market.specs.Ranges.{cents_of, reference_highest, reference_lowest};
 ghost use Rattle.auction.specs.Auctions.{auction_of};
 ghost use Rattle.auction.specs.Changing.{quoted};
 ghost use Rattle.auction.specs.Refusing.{call_cause, refusal, verdict};
 
-use super::{Auction, TakesQuotes};
+use super::{Auction, Progress, TakesQuotes};
 use crate::auction_book::AuctionBook;
 use crate::schedule::DAY_END;
 use market::quote::Quote;
+use market::range::PriceRange;
 use market::refusal::Refusal;
+
+impl Progress {
+    pub(super) fn reference_range(&self) -> PriceRange
+        ensures lowest { result.lowest.cents ≡ reference_lowest (cents_of self.now.quote.bid) (cents_of self.now.quote.offer) self.now.last_sale.cents }
+        ensures highest { result.highest.cents ≡ reference_highest (cents_of self.now.quote.bid) (cents_of self.now.quote.offer) self.now.last_sale.cents }
+    {
+        self.quote.reference_range(self.last_sale)
+    }
+}
 
 impl<S: TakesQuotes> Auction<S> {
     /// Replaces the quote.
