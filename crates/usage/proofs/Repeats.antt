@@ -1,6 +1,6 @@
 -- A cross into one list, and where that was refused its repeat into another, are one cross into the longer of both.
 use Rattle.std.proofs.Common.{◌≡◌, ℕ, max, Bool, true, false, cond, ltb, List, Ok, Err, Result, sym, refl, ap, ◌∙◌, arith, MatchResult}
-use Rattle.std.proofs.lemmas.Bool.{cond-false, cond-true}
+use Rattle.std.proofs.lemmas.Bool.{cond-true}
 use Rattle.std.proofs.lemmas.Bool.Decides.{nat_tests}
 use Rattle.market.specs.Causes.{Cause, cause}
 use Rattle.market.specs.declared.order.OrderTerms.{OrderTerms}
@@ -64,12 +64,8 @@ pub by_verdict : {X Y : Type 0} (r : Result X (Y × Refusal)) {P P' : X → Type
 by_verdict (Ok s) v h known accepted refused = accepted s h known
 by_verdict (Err e) v h known accepted refused = refused e known
 
--- which of the two lists is written
+-- the second list is written
 module _ (a : Auction) (filed : List OrderTerms) (good : OrderTerms → OrderTerms → Bool) (first second : List Allotment) where
-  pub first_written : (l : List Allotment) → first_short a filed good first second ≡ false → l ≡ list_after a filed good first
-      → (l ≡ first_after a filed good first second) × (second ≡ second_after a filed good first second)
-  first_written l room e = (e ∙ sym (cond-false _ _ _ room), sym (cond-false _ _ _ room))
-
   pub second_written : (l o : List Allotment) → first_short a filed good first second ≡ true → l ≡ first → o ≡ list_after a filed good second
       → (l ≡ first_after a filed good first second) × (o ≡ second_after a filed good first second)
   second_written l o short e f = (e ∙ sym (cond-true _ _ _ short), f ∙ sym (cond-true _ _ _ short))

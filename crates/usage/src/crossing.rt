@@ -31,9 +31,6 @@ pub fn cross_with_more_room<F: Book, R: Ranking>(
 {
     match auction.cross::<F, R>(book, time, filed, list) {
         Ok(crossed) => Ok(crossed),
-        Err(back) => {
-            let (auction, _) = back;
-            auction.cross::<F, R>(book, time, filed, longer)
-        }
+        Err((auction, _)) => auction.cross::<F, R>(book, time, filed, longer),
     }
 }

@@ -19,17 +19,12 @@ fn order(side: Side, cents: u32, shares: u32, entry: u16) -> Result<Order, Fail>
         displayed: true,
         stays: true,
     };
-    match Order::new(terms) {
-        Ok(order) => Ok(order),
-        Err(_) => Err(Fail::new("an order")),
-    }
+    Ok(Order::new(terms)?)
 }
 
 /// An auction with a buy of 300 and a sell of 200, both at the last sale.
 fn open_auction(rt: &impl Abort, book: &mut AuctionBook) -> Result<Open, Fail> {
-    let Ok(mut auction) = start(book, 1000) else {
-        return Err(Fail::new("started"));
-    };
+    let mut auction = start(book, 1000)?;
     assert!(rt;
         auction
             .enter(book, 1, order(Side::Buy, 1000, 300, 1)?)
@@ -44,17 +39,15 @@ fn open_auction(rt: &impl Abort, book: &mut AuctionBook) -> Result<Open, Fail> {
 }
 
 fn locked_auction(rt: &impl Abort, book: &mut AuctionBook) -> Result<Locked, Fail> {
-    match open_auction(rt, book)?.lock(book, 34_080_000) {
-        Ok(auction) => Ok(auction),
-        Err(_) => Err(Fail::new("locked")),
-    }
+    open_auction(rt, book)?
+        .lock(book, 34_080_000)
+        .map_err(|_| Fail::new("locked"))
 }
 
 fn shut_auction(rt: &impl Abort, book: &mut AuctionBook) -> Result<Shut, Fail> {
-    match locked_auction(rt, book)?.shut(book, 34_190_000) {
-        Ok(auction) => Ok(auction),
-        Err(_) => Err(Fail::new("shut")),
-    }
+    locked_auction(rt, book)?
+        .shut(book, 34_190_000)
+        .map_err(|_| Fail::new("shut"))
 }
 
 /// What a cross of a shut auction does, with a filed book that has no orders.
@@ -65,14 +58,12 @@ fn crossed(
     none: &AuctionBook,
 ) -> Result<Outcome, Fail> {
     let mut list = [Allotment { place: 9, fill: 9 }; 3];
-    let done = match auction.cross::<AuctionBook, ByDisplay>(book, 34_200_000, none, &mut list) {
-        Ok(done) => done,
-        Err(_) => return Err(Fail::new("crossed")),
-    };
+    let (_, outcome) = auction
+        .cross::<AuctionBook, ByDisplay>(book, 34_200_000, none, &mut list)
+        .map_err(|_| Fail::new("crossed"))?;
     assert!(rt; list[0].place == 0 && list[0].fill == 200);
     assert!(rt; list[1].place == 1 && list[1].fill == 200);
     assert!(rt; list[2].place == 9 && list[2].fill == 9);
-    let (_, outcome) = done;
     Ok(outcome)
 }
 
@@ -86,8 +77,7 @@ fn a_cross_for_want_of_room_is_repeated(rt: HostRuntime) -> Result<(), Fail> {
         &mut book, 34_200_000, &none, &mut short,
     ) {
         Ok(_) => return Err(Fail::new("a list too short was taken")),
-        Err(back) => {
-            let (auction, refusal) = back;
+        Err((auction, refusal)) => {
             assert_eq!(rt; refusal.number(), 12);
             auction
         }
@@ -108,9 +98,7 @@ fn a_cross_for_want_of_room_is_repeated(rt: HostRuntime) -> Result<(), Fail> {
 #[test]
 fn the_book_is_full_at_256(rt: HostRuntime) -> Result<(), Fail> {
     let mut book = AuctionBook::new(rt.alloc())?;
-    let Ok(mut auction) = start(&mut book, 1000) else {
-        return Err(Fail::new("started"));
-    };
+    let mut auction = start(&mut book, 1000)?;
     for entry in 1..257u16 {
         assert!(rt;
             auction
@@ -140,12 +128,8 @@ fn any_book_stands_as_the_filed_book(rt: HostRuntime) -> Result<(), Fail> {
             .is_ok()
     );
     let mut auction = locked_auction(&rt, &mut book)?;
-    let Ok(alone) = auction.publish(&book, 34_080_001, &none) else {
-        return Err(Fail::new("published alone"));
-    };
-    let Ok(joined) = auction.publish(&book, 34_080_001, &other) else {
-        return Err(Fail::new("published joined"));
-    };
+    let alone = auction.publish(&book, 34_080_001, &none)?;
+    let joined = auction.publish(&book, 34_080_001, &other)?;
     assert_eq!(rt; alone.paired_shares, 200);
     assert_eq!(rt; joined.paired_shares, 200);
     assert_eq!(rt; alone.indicative_price, 1000);

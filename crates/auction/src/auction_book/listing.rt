@@ -16,11 +16,7 @@ impl Book for AuctionBook {
     }
 
     fn order(&self, place: usize) -> Option<Order> {
-        if place >= self.rows.len() {
-            return None;
-        }
-        Some(Order {
-            terms: self.rows[place],
-        })
+        let terms = *self.rows.get(place)?;
+        Some(Order { terms })
     }
 }

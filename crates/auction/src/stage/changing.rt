@@ -33,7 +33,7 @@ impl<S> Auction<S> {
         ensures cause { verdict_back result ≡ refusal (first_of ((6, nat_lt time self.progress.last_time) ∷ (7, outside from day_end time) ∷ [])) }
         ensures after { MatchResult result (λ s. s.progress ≡ record self.progress { last_time = time }) (λ e. e.0 ≡ self) }
     {
-        match self.progress.check_time(time, from, DAY_END) {
+        match self.progress.check_time(time, from..DAY_END) {
             Ok(()) => Ok(self.moved_to(time)),
             Err(refusal) => Err((self, refusal)),
         }

@@ -48,7 +48,7 @@ impl Progress {
     ) -> Result<Outcome, Refusal>
         ensures { MatchResult result (λ o. (o ≡ outcome (auction_at in_shut self.now (accepted book.now)) (F.Book.orders filed.now) R.Ranking.good) × (list.new ≡ list_after (auction_at in_shut self.now (accepted book.now)) (F.Book.orders filed.now) R.Ranking.good list.old) × (length (whole (auction_at in_shut self.now (accepted book.now)) (F.Book.orders filed.now)) ≤ length list.old)) (λ e. (cause e ≡ at 12 0 0) × (length list.old < length (whole (auction_at in_shut self.now (accepted book.now)) (F.Book.orders filed.now))) × (list.new ≡ list.old)) }
     {
-        let range = self.quote.reference_range(self.last_sale);
+        let range = self.reference_range();
         let whole = Joined {
             first: Lent { book },
             second: Lent { book: filed },

@@ -30,19 +30,11 @@ impl<S: TakesOrders> Auction<S> {
         ensures cause { verdict result ≡ refusal (call_cause (auction_of S.stage self.old book.old) time (enter order.terms)) }
         ensures after { MatchResult result (λ n. (n ≡ order.terms.shares) × (auction_of S.stage self.new book.new ≡ entered (auction_of S.stage self.old book.old) time order.terms)) (λ _. (self.new ≡ self.old) × (book.new ≡ book.old)) }
     {
-        self.progress.check_time(time, 0, S::ENTRY_END)?;
+        self.progress.check_time(time, 0..S::ENTRY_END)?;
         if order.terms.entry <= self.progress.last_entry {
             return Err(Refusal::EntryNumber);
         }
-        if S::IN_COLLAR
-            && is_beyond(
-                self.progress
-                    .quote
-                    .reference_range(self.progress.last_sale)
-                    .collar(),
-                order,
-            )
-        {
+        if S::IN_COLLAR && is_beyond(self.progress.reference_range().collar(), order) {
             return Err(Refusal::OutsideCollar);
         }
         if book.count() >= MOST_ACCEPTED {

@@ -29,7 +29,7 @@ impl Open {
         if entry_number == 0 || !lawful_shares(shares) {
             return Err(Refusal::Value);
         }
-        self.progress.check_time(time, 0, LOCK_TIME)?;
+        self.progress.check_time(time, 0..LOCK_TIME)?;
         let Some(place) = book.find(entry_number) else {
             return Err(Refusal::NoSuchOrder);
         };

@@ -25,7 +25,7 @@ impl Progress {
     fn figures_of<F: Book>(&self, book: &AuctionBook, filed: &F) -> Figures
         ensures { result ≡ published (auction_at in_shut self.now (accepted book.now)) (F.Book.orders filed.now) }
     {
-        let range = self.quote.reference_range(self.last_sale);
+        let range = self.reference_range();
         let twice = range.twice_middle();
         let collar = range.collar();
         let reference = clearing_price(book, range, twice);
@@ -58,7 +58,7 @@ impl<S: Publishes> Auction<S> {
         ensures cause { verdict result ≡ refusal (call_cause (auction_of S.stage self.old book.now) time publish) }
         ensures after { MatchResult result (λ f. (f ≡ published (auction_of S.stage self.old book.now) (F.Book.orders filed.now)) × (auction_of S.stage self.new book.now ≡ moved (auction_of S.stage self.old book.now) time S.stage)) (λ _. self.new ≡ self.old) }
     {
-        self.progress.check_time(time, 0, DAY_END)?;
+        self.progress.check_time(time, 0..DAY_END)?;
         let figures = self.progress.figures_of(book, filed);
         self.progress.last_time = time;
         Ok(figures)

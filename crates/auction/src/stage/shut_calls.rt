@@ -29,7 +29,7 @@ impl Shut {
         ensures cause { verdict_back result ≡ refusal (first_cause (shut_auction self book.old) (F.Book.orders filed.now) (length list.old) time cross) }
         ensures after { MatchResult result (λ s. (crossed_auction s.0 book.new ≡ crossed (shut_auction self book.old) time) × (s.1 ≡ outcome (shut_auction self book.old) (F.Book.orders filed.now) R.Ranking.good) × (list.new ≡ list_after (shut_auction self book.old) (F.Book.orders filed.now) R.Ranking.good list.old)) (λ e. (e.0 ≡ self) × (book.new ≡ book.old) × (list.new ≡ list.old)) }
     {
-        if let Err(refusal) = self.progress.check_time(time, CROSS_TIME, DAY_END) {
+        if let Err(refusal) = self.progress.check_time(time, CROSS_TIME..DAY_END) {
             return Err((self, refusal));
         }
         match self.progress.cross_whole::<F, R>(book, filed, list) {

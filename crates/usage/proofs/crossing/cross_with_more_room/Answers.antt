@@ -1,5 +1,5 @@
 -- Accepted at once, the first list had room. Refused, the repeat finds the auction and its book as they were.
-use Rattle.std.proofs.Common.{◌≡◌, true, false, ltb, length, ap, ◌∙◌}
+use Rattle.std.proofs.Common.{◌≡◌, true, false, rules, ltb, length, ap, ◌∙◌}
 use Rattle.market.specs.Calls.{cross}
 use Rattle.auction.specs.Auctions.{shut_auction, whole}
 use Rattle.auction.specs.Changing.{crossed}
@@ -10,7 +10,6 @@ use Rattle.usage.proofs.Repeats.{
   accepted_in_longer,
   by_verdict,
   cross_cause,
-  first_written,
   has_room,
   repeated_in_longer,
   second_written,
@@ -18,22 +17,17 @@ use Rattle.usage.proofs.Repeats.{
 }
 use Rattle.usage.proofs.crossing.cross_with_more_room.Goals as goal
 
-pub returns-in-Ok : goal.returns-in-Ok
-returns-in-Ok g c =
-    let x = c.in-Ok.ensures in
-    let filed = g.F.Book.orders c.args.filed.now in
-    let a = shut_auction c.args.auction c.args.book.now in
-    let n = length (whole a filed) in
-    let m = length c.args.list.now in
-    let k = length c.args.longer.now in
-    let below = ltb c.args.time c.args.auction.progress.last_time in
-    let late = outside cross_time day_end c.args.time in
-    let room : ltb m n ≡ false = has_room below late (ltb m n) x.cause in
-    let lists = first_written a filed g.R.Ranking.good c.args.list.now c.args.longer.now c.cross.new.list room x.after.2 in
-    record {
-      cause = accepted_in_longer below late m k n x.cause;
-      after = (x.after.0, x.after.1, lists.0, lists.1);
-    }
+pub returns-in-Ok-clause-cause : goal.returns-in-Ok-clause-cause
+returns-in-Ok-clause-cause g c =
+    let n = length (whole (shut_auction c.args.auction c.args.book.now) (g.F.Book.orders c.args.filed.now)) in
+    accepted_in_longer (ltb c.args.time c.args.auction.progress.last_time) (outside cross_time day_end c.args.time) (length c.args.list.now) (length c.args.longer.now) n c.in-Ok.ensures.cause
+
+pub returns-in-Ok-clause-after : goal.returns-in-Ok-clause-after
+returns-in-Ok-clause-after g c =
+    let n = length (whole (shut_auction c.args.auction c.args.book.now) (g.F.Book.orders c.args.filed.now)) in
+    let room : ltb (length c.args.list.now) n ≡ false
+    = has_room (ltb c.args.time c.args.auction.progress.last_time) (outside cross_time day_end c.args.time) (ltb (length c.args.list.now) n) c.in-Ok.ensures.cause in
+    search rules
 
 pub returns-in-Err : goal.returns-in-Err
 returns-in-Err g c =
@@ -47,13 +41,13 @@ returns-in-Err g c =
     let k = length c.args.longer.now in
     let below = ltb c.args.time c.args.auction.progress.last_time in
     let late = outside cross_time day_end c.args.time in
-    let same : shut_auction c.in-Err.back.0 c.cross.new.book ≡ a = λ i. shut_auction (x.after.0 i) (x.after.1 i) in
+    let same : shut_auction c.in-Err.auction c.cross.new.book ≡ a = λ i. shut_auction (x.after.0 i) (x.after.1 i) in
     let repeat : verdict_back c.cross-in-Err.result ≡ cross_cause below late (ltb k n)
     = y.cause ∙ ap (λ b. refusal (first_cause b filed k c.args.time cross)) same in
     let short : refusal 0 ≡ cross_cause below late (ltb k n) → ltb m n ≡ true
-    = was_short c.in-Err.back.1 below late (ltb m n) (ltb k n) x.cause in
+    = was_short c.in-Err.field-0-1 below late (ltb m n) (ltb k n) x.cause in
     record {
-      cause = repeated_in_longer c.in-Err.back.1 (verdict_back c.cross-in-Err.result) below late m k n x.cause repeat;
+      cause = repeated_in_longer c.in-Err.field-0-1 (verdict_back c.cross-in-Err.result) below late m k n x.cause repeat;
       after =
           by_verdict c.cross-in-Err.result (cross_cause below late (ltb k n)) repeat y.after
           (λ s v p.
