@@ -6,14 +6,15 @@ use Rattle.market.specs.declared.order.OrderTerms.{OrderTerms}
 use Rattle.cross.specs.declared.allotment.Allotment.{Allotment}
 use Rattle.session.specs.Layout.{Session}
 use Rattle.session.specs.Records.{most_resting, orders_in}
-use Rattle.session.specs.declared.resting.FiledBook.{FiledBook}
+use Rattle.session.specs.declared.record.Record.{Ghosts}
+use Rattle.session.specs.declared.record.filed.FiledRecords.{FiledRecords}
 use Rattle.auction.specs.Rows.{most_accepted}
 use Rattle.replay.specs.Performing.{State}
 use Rattle.replay.specs.Runs.{Asked, first_state}
 pub use Rattle.reporting.specs.Sessions.{or_empty, ranking_of}
 
 -- the orders of a filed book
-abbrev pub filed_orders : FiledBook → List OrderTerms
+abbrev pub filed_orders : {R : Type 0} {G : Ghosts R} → FiledRecords R G → List OrderTerms
 filed_orders b = orders_in b.records.now
 
 -- an event, with the book that stands as the filed book

@@ -1,9 +1,8 @@
 -- A walk over records of one size: what it does at the k-th of n records.
 use Rattle.std.proofs.Common.{◌≡◌, ℕ, suc, ◌+◌, ◌-◌, ◌*◌, ◌/◌, ◌<◌, List, length, Option, sym, ap, ◌∙◌, mul-one, mul-add, arith}
 use Rattle.session.specs.declared.field.Field.{Field}
-use Rattle.session.specs.declared.record.Record.{Record}
 use Rattle.session.specs.Fields.{first_bad}
-use Rattle.session.specs.Faults.{fields_of, first_in, or_else, record_size}
+use Rattle.session.specs.Faults.{first_in, or_else}
 
 -- the fields that a record has, by where it begins
 abbrev pub Table : Type 0
@@ -18,15 +17,12 @@ first_in_more F s n bs k h =
     ∙ ap (λ a. or_else (first_bad (F bs (s * k)) bs (s * k)) (first_in F s (n - (k + 1)) bs a)) next
 
 -- the first bad field from the k-th record of a body on
-abbrev pub first_from : Record → List ℕ → ℕ → Option ℕ
-first_from r bs k = first_in (fields_of r) (record_size r) (length bs / record_size r - k) bs (record_size r * k)
+abbrev pub first_from : Table → ℕ → List ℕ → ℕ → Option ℕ
+first_from F s bs k = first_in F s (length bs / s - k) bs (s * k)
 
--- it is what was found in the k-th record, or else the first from the next on; m is the size, as the walk has it
-pub first_from_more : (r : Record) (bs : List ℕ) (m k : ℕ) (found : Option ℕ) → m ≡ record_size r → k < length bs / m
-    → found ≡ first_bad (fields_of r bs (m * k)) bs (m * k)
-    → or_else found (first_from r bs (k + 1)) ≡ first_from r bs k
-first_from_more r bs m k found e h here =
-    let s = record_size r in
-    let below : k < length bs / s = rw e at h in
-    let same : found ≡ first_bad (fields_of r bs (s * k)) bs (s * k) = rw e at here in
-    sym (first_in_more (fields_of r) s (length bs / s) bs k below ∙ ap (λ o. or_else o (first_from r bs (k + 1))) (sym same))
+-- it is what was found in the k-th record, or else the first from the next on
+pub first_from_more : (F : Table) (s : ℕ) (bs : List ℕ) (k : ℕ) (found : Option ℕ) → k < length bs / s
+    → found ≡ first_bad (F bs (s * k)) bs (s * k)
+    → or_else found (first_from F s bs (k + 1)) ≡ first_from F s bs k
+first_from_more F s bs k found h here =
+    sym (first_in_more F s (length bs / s) bs k h ∙ ap (λ o. or_else o (first_from F s bs (k + 1))) (sym here))

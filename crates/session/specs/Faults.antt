@@ -6,8 +6,6 @@ use Rattle.market.specs.Causes.{Cause, at}
 use Rattle.session.specs.declared.body.BodyKind.{BodyKind}
 use Rattle.session.specs.declared.body.BodyKind.TheVariants.{Heading, Resting, Events, Note}
 use Rattle.session.specs.declared.field.Field.{Field}
-use Rattle.session.specs.declared.record.Record.{Record}
-use Rattle.session.specs.declared.record.Record.TheVariants.{Order, Event}
 use Rattle.session.specs.Fields.{byte, first_bad}
 use Rattle.session.specs.Records.{
   heading_size,
@@ -49,15 +47,6 @@ fields_of_order bs at = order_fields
 -- an event's fields go by its kind and its flags
 abbrev pub fields_of_event : List ℕ → ℕ → List Field
 fields_of_event bs at = event_fields (byte bs (at + 4)) (byte bs (at + 5))
-
--- the same of either kind of records
-abbrev pub fields_of : Record → List ℕ → ℕ → List Field
-fields_of Order = fields_of_order
-fields_of Event = fields_of_event
-
-abbrev pub record_size : Record → ℕ
-record_size Order = order_size
-record_size Event = event_size
 
 -- the first bad field of a body
 abbrev pub bad_field : BodyKind → List ℕ → Option ℕ

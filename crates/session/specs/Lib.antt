@@ -5,6 +5,7 @@ pub mod Contents
 pub mod Handed
 pub mod EventKinds
 pub mod Faults
+pub mod Told
 pub mod FirstCauses
 pub mod Layout
 pub mod Filed

@@ -3,13 +3,22 @@
 pub(crate) mod contents;
 pub(crate) mod layers;
 
-/// The kinds of bodies, in their sequence in the file.
-#[derive(Clone, Copy)]
+/// The kinds of bodies, in their sequence in the file, by their bits in the mask.
+#[derive(Clone, Copy, PartialEq, Eq, Debug)]
 pub enum BodyKind {
-    Heading,
-    Resting,
-    Events,
-    Note,
+    Heading = 1,
+    Resting = 2,
+    Events = 4,
+    Note = 8,
+}
+
+impl BodyKind {
+    pub(crate) const ALL: [BodyKind; 4] = [
+        BodyKind::Heading,
+        BodyKind::Resting,
+        BodyKind::Events,
+        BodyKind::Note,
+    ];
 }
 
 /// A body as the part of the file that it is.

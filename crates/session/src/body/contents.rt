@@ -39,12 +39,7 @@ impl BodyKind {
     fn bit(self) -> u8
         ensures { result ≡ bit self }
     {
-        match self {
-            BodyKind::Heading => 1,
-            BodyKind::Resting => 2,
-            BodyKind::Events => 4,
-            BodyKind::Note => 8,
-        }
+        self as u8
     }
 
     /// Whether a mask has the body.

@@ -1,17 +1,22 @@
 //! Layers 2 and 3: the lengths of the bodies, and their fields.
 
-ghost use Rattle.std.specs.Prelude.{◌≡◌, true, length, Some, None, MatchResult};
-ghost use Rattle.market.specs.Causes.{cause};
+ghost use Rattle.std.specs.Prelude.{◌≡◌, true, length, Some, None, Option, Result, MatchResult};
+ghost use Rattle.market.specs.Causes.{Cause, cause};
+ghost use Rattle.market.specs.declared.refusal.Refusal.{Refusal};
+ghost use Rattle.session.specs.declared.body.BodyKind.{BodyKind};
+ghost use Rattle.session.specs.Told.{Told};
 ghost use Rattle.session.specs.Contents.{body};
 ghost use Rattle.session.specs.Faults.{bad_field, first_of, fits, wrong_field, wrong_length};
 ghost use Rattle.session.specs.Handed.{bytes_of, kind_of};
 
 use super::contents::LaidFile;
 use super::{Body, BodyKind};
+use crate::events::EventRecord;
 use crate::field::first_bad_field;
 use crate::record::fields::heading_fields;
-use crate::record::{EVENT_SIZE, HEADING_SIZE, ORDER_SIZE, Record};
-use crate::resting::MOST_RESTING;
+use crate::record::walk::first_bad_in;
+use crate::record::{HEADING_SIZE, Record};
+use crate::resting::{MOST_RESTING, OrderRecord};
 use market::refusal::Refusal;
 
 impl<'a> Body<'a> {
@@ -22,9 +27,10 @@ impl<'a> Body<'a> {
         match self {
             Body::Heading(bytes) => bytes.len() == HEADING_SIZE,
             Body::Resting(bytes) => {
-                bytes.len() % ORDER_SIZE == 0 && bytes.len() <= ORDER_SIZE * MOST_RESTING
+                bytes.len() % OrderRecord::SIZE == 0
+                    && bytes.len() <= OrderRecord::SIZE * MOST_RESTING
             }
-            Body::Events(bytes) => bytes.len() % EVENT_SIZE == 0,
+            Body::Events(bytes) => bytes.len() % EventRecord::SIZE == 0,
             Body::Note(_) => true,
         }
     }
@@ -45,8 +51,8 @@ impl<'a> Body<'a> {
     {
         match self {
             Body::Heading(bytes) => first_bad_field(bytes, 0, &heading_fields()),
-            Body::Resting(bytes) => Record::Order.first_bad_in(bytes),
-            Body::Events(bytes) => Record::Event.first_bad_in(bytes),
+            Body::Resting(bytes) => first_bad_in::<OrderRecord>(bytes),
+            Body::Events(bytes) => first_bad_in::<EventRecord>(bytes),
             Body::Note(_) => None,
         }
     }
@@ -70,7 +76,7 @@ impl<'a> LaidFile<'a> {
 
     /// Refuses a body whose length is none of its kind, by the byte where it begins.
     fn check_length(self, kind: BodyKind) -> Result<(), Refusal>
-        ensures { MatchResult result (λ _. wrong_length self.entry.listed.bytes.now kind ≡ None) (λ e. wrong_length self.entry.listed.bytes.now kind ≡ Some (cause e)) }
+        ensures { Told result (wrong_length self.entry.listed.bytes.now kind) }
     {
         if self.body(kind).fits() {
             return Ok(());
@@ -81,7 +87,7 @@ impl<'a> LaidFile<'a> {
     /// Refuses a body with a field outside its values, by the first byte of the first such field.
     fn check_fields_of(self, kind: BodyKind) -> Result<(), Refusal>
         requires { wrong_length self.listed.bytes.now kind ≡ None }
-        ensures { MatchResult result (λ _. wrong_field self.entry.listed.bytes.now kind ≡ None) (λ e. wrong_field self.entry.listed.bytes.now kind ≡ Some (cause e)) }
+        ensures { Told result (wrong_field self.entry.listed.bytes.now kind) }
     {
         match self.body(kind).first_bad() {
             Some(byte) => Err(Refusal::FiledField((self.listed.start_of(kind) + byte) as u16)),
@@ -91,22 +97,27 @@ impl<'a> LaidFile<'a> {
 
     /// Refuses a file with a body of a wrong length, by the first such body.
     pub(crate) fn check_lengths(self) -> Result<(), Refusal>
-        ensures { MatchResult result (λ _. first_of (wrong_length self.entry.listed.bytes.now) ≡ None) (λ e. first_of (wrong_length self.entry.listed.bytes.now) ≡ Some (cause e)) }
+        ensures { Told result (first_of (wrong_length self.entry.listed.bytes.now)) }
     {
-        self.check_length(BodyKind::Heading)?;
-        self.check_length(BodyKind::Resting)?;
-        self.check_length(BodyKind::Events)?;
-        self.check_length(BodyKind::Note)
+        check_bodies(|kind| self.check_length(kind))
     }
 
     /// Refuses a file with a field outside its values, by the first such byte.
     pub(crate) fn check_fields(self) -> Result<(), Refusal>
         requires { first_of (wrong_length self.listed.bytes.now) ≡ None }
-        ensures { MatchResult result (λ _. first_of (wrong_field self.entry.listed.bytes.now) ≡ None) (λ e. first_of (wrong_field self.entry.listed.bytes.now) ≡ Some (cause e)) }
+        ensures { Told result (first_of (wrong_field self.entry.listed.bytes.now)) }
     {
-        self.check_fields_of(BodyKind::Heading)?;
-        self.check_fields_of(BodyKind::Resting)?;
-        self.check_fields_of(BodyKind::Events)?;
-        self.check_fields_of(BodyKind::Note)
+        check_bodies(|kind| self.check_fields_of(kind))
     }
+}
+
+/// Checks each body, up to the first that is refused.
+fn check_bodies<F: Fn(BodyKind) -> Result<(), Refusal>>(check: F) -> Result<(), Refusal>
+    requires { F.IsAlwaysCallable check }
+    ensures { (f : BodyKind → Option Cause) → ((k : BodyKind) (r : Result (Unit {0}) Refusal) → F.post check k r → Told r (f k)) → Told result (first_of f) }
+{
+    for kind in BodyKind::ALL {
+        check(kind)?;
+    }
+    Ok(())
 }

@@ -1,17 +1,17 @@
 //! The events by place.
 
-ghost use Rattle.std.specs.Prelude.{◌≡◌, ◌+◌, ◌<◌, ◌≤◌, true, length, None, slice_index_or};
+ghost use Rattle.std.specs.Prelude.{◌≡◌, true, length};
 ghost use Rattle.session.specs.declared.field.Values.TheVariants.{CentsOrNone};
 ghost use Rattle.market.specs.Ranges.{cents_of};
 ghost use Rattle.market.specs.Calls.{timed};
 ghost use Rattle.session.specs.Events.{AnswersEvent, SoundEvent};
-ghost use Rattle.session.specs.Fields.{admits, first_bad};
-ghost use Rattle.session.specs.Faults.{fields_of_event};
+ghost use Rattle.session.specs.Fields.{admits};
 ghost use Rattle.session.specs.Records.{entered, event_at, events_in};
 
-use super::FiledEvents;
+use super::{EventRecord, FiledEvents};
 use crate::field::{four_at, side_of, two_at};
-use crate::record::EVENT_SIZE;
+use crate::record::filed::CleanRecord;
+use crate::record::flags::{DISPLAYED, MARKET, SELL, STAYS};
 use crate::record::kind::EventKind;
 use market::event::{Event, TimedEvent};
 use market::order::{Order, OrderPrice, OrderTerms};
@@ -26,81 +26,74 @@ fn filed_price(cents: u32) -> Option<Price>
     Price::new(cents).ok()
 }
 
-/// The terms of an order that is entered; the flags sum 1 sell, 2 market, 4 stays and 8 displayed.
+/// The terms of an order that is entered.
 fn entered_terms(flags: u8, entry: u16, limit: u32, shares: u32) -> OrderTerms
     ensures { result ≡ entered flags entry limit shares }
 {
-    let price = if flags & 2 != 0 {
+    let price = if flags & MARKET != 0 {
         OrderPrice::Market
     } else {
         OrderPrice::Limit(limit)
     };
     OrderTerms {
-        side: side_of(flags & 1 != 0),
+        side: side_of(flags & SELL != 0),
         price,
         shares,
         entry,
-        displayed: flags & 8 != 0,
-        stays: flags & 4 != 0,
+        displayed: flags & DISPLAYED != 0,
+        stays: flags & STAYS != 0,
     }
 }
 
-/// The event whose record begins at a byte.
-fn event_at(bytes: &[u8], at: usize) -> TimedEvent
-    requires within { at + 16 ≤ length bytes.now }
-    requires clean { first_bad (fields_of_event bytes.now at) bytes.now at ≡ None }
-    ensures { timed result ≡ event_at bytes.now at }
-{
-    let number = two_at(bytes, at + 6);
-    let first = four_at(bytes, at + 8);
-    let second = four_at(bytes, at + 12);
-    let event = match EventKind::try_from(u32::from(bytes[at + 4])).unwrap() {
-        EventKind::Enter => {
-            let terms = entered_terms(bytes[at + 5], number, first, second);
-            Event::Enter(Order { terms })
+impl<'a> CleanRecord<'a, EventRecord> {
+    /// The event that the record says.
+    fn event(self) -> TimedEvent
+        ensures { timed result ≡ event_at self.entry.bytes.now self.entry.at }
+    {
+        let bytes = self.bytes;
+        let at = self.at;
+        let number = two_at(bytes, at + 6);
+        let first = four_at(bytes, at + 8);
+        let second = four_at(bytes, at + 12);
+        let event = match EventKind::try_from(u32::from(bytes[at + 4])).unwrap() {
+            EventKind::Enter => {
+                let terms = entered_terms(bytes[at + 5], number, first, second);
+                Event::Enter(Order { terms })
+            }
+            EventKind::Cancel => Event::Cancel {
+                entry: number,
+                shares: second,
+            },
+            EventKind::Quote => Event::Quote(Quote {
+                bid: filed_price(first),
+                offer: filed_price(second),
+            }),
+            EventKind::Publish => Event::Publish,
+            EventKind::Lock => Event::Lock,
+            EventKind::Shut => Event::Shut,
+            EventKind::Cross => Event::Cross,
+        };
+        TimedEvent {
+            time: four_at(bytes, at),
+            event,
         }
-        EventKind::Cancel => Event::Cancel {
-            entry: number,
-            shares: second,
-        },
-        EventKind::Quote => Event::Quote(Quote {
-            bid: filed_price(first),
-            offer: filed_price(second),
-        }),
-        EventKind::Publish => Event::Publish,
-        EventKind::Lock => Event::Lock,
-        EventKind::Shut => Event::Shut,
-        EventKind::Cross => Event::Cross,
-    };
-    TimedEvent {
-        time: four_at(bytes, at),
-        event,
     }
 }
 
 impl<'a> FiledEvents<'a> {
-    fn filed(&self, place: usize) -> TimedEvent
-        requires { place < self.now.count }
-        ensures listed { timed result ≡ slice_index_or (events_in self.now.records.now) place (timed result) }
-        ensures sound { SoundEvent (timed result) }
-    {
-        event_at(self.records, EVENT_SIZE * place)
-    }
-
     /// How many events there are.
+    #[tactic(auto, using(crate::proofs::FiledRecords::length_events))]
     pub fn count(&self) -> usize
         ensures { result ≡ length (events_in self.now.records.now) }
     {
-        self.count
+        self.len()
     }
 
     /// The event at a place, counted from 0; none at or past the count.
     pub fn event(&self, place: usize) -> Option<TimedEvent>
         ensures { AnswersEvent (events_in self.now.records.now) place result }
     {
-        if place >= self.count {
-            return None;
-        }
-        Some(self.filed(place))
+        let record = self.get(place)?;
+        Some(record.event())
     }
 }

@@ -5,6 +5,7 @@ ghost use Rattle.market.specs.declared.order.Side.TheVariants.{Buy, Sell};
 ghost use Rattle.session.specs.Fields.{admits, first_bad, four, size, span, two, value};
 
 use super::{Field, Values, Width};
+use crate::record::flags::{MARKET, STAYS};
 use crate::record::kind::EventKind;
 use market::event::LAST_TIME;
 use market::order::{Side, lawful_shares};
@@ -67,7 +68,8 @@ impl Values {
             Values::Shares => lawful_shares(n),
             Values::TimeOfDay => n <= LAST_TIME,
             Values::EventKind => EventKind::try_from(n).is_ok(),
-            Values::EnterFlags => n <= 15 && !(n & 2 != 0 && n & 4 != 0),
+            Values::EnterFlags => n <= 15
+                && !(n & u32::from(MARKET) != 0 && n & u32::from(STAYS) != 0),
         }
     }
 }

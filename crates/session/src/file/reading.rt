@@ -13,11 +13,11 @@ use crate::body::{Body, BodyKind};
 use crate::events::FiledEvents;
 use crate::field::four_at;
 use crate::heading::Heading;
-use crate::record::{EVENT_SIZE, ORDER_SIZE};
 use crate::resting::FiledBook;
 use market::price::Price;
 use market::ranking::RankingName;
 use market::refusal::Refusal;
+use std::marker::PhantomData;
 
 /// Layer by layer, so that the lowest number is given.
 fn check<'a>(file: &'a [u8]) -> Result<LaidFile<'a>, Refusal>
@@ -47,11 +47,11 @@ fn session_of<'a>(file: LaidFile<'a>) -> SessionFile<'a>
         },
         resting: FiledBook {
             records: resting,
-            count: resting.len() / ORDER_SIZE,
+            kind: PhantomData,
         },
         events: FiledEvents {
             records: events,
-            count: events.len() / EVENT_SIZE,
+            kind: PhantomData,
         },
         note: file.body(BodyKind::Note).bytes(),
     }

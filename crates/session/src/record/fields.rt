@@ -3,6 +3,7 @@
 ghost use Rattle.std.specs.Prelude.{◌≡◌};
 ghost use Rattle.session.specs.Records.{event_fields, heading_fields, order_fields};
 
+use super::flags::MARKET;
 use super::kind::EventKind;
 use crate::field::{Field, Values, Width};
 
@@ -42,7 +43,7 @@ pub(crate) fn event_fields(kind: u8, flags: u8) -> [Field; 6]
     ensures { result ≡ event_fields kind flags }
 {
     let (flag_values, number, first, second) = match EventKind::try_from(u32::from(kind)) {
-        Ok(EventKind::Enter) if flags & 2 != 0 => (
+        Ok(EventKind::Enter) if flags & MARKET != 0 => (
             Values::EnterFlags,
             Values::EntryNumber,
             Values::Zero,

@@ -2,7 +2,8 @@
 use Rattle.std.proofs.Common.{◌≡◌, ◌≤◌, List, map, length, vec_items, sym, ap, ◌∙◌, subst, arith}
 use Rattle.std.proofs.lemmas.List.{length-map, with_items_is, take_all}
 use Rattle.session.specs.Records.{events_in}
-use Rattle.session.specs.declared.resting.FiledBook.{FiledBook}
+use Rattle.session.specs.declared.record.Record.{Ghosts}
+use Rattle.session.specs.declared.record.filed.FiledRecords.{FiledRecords}
 use Rattle.market.specs.Calls.{Timed}
 use Rattle.market.specs.RankingNames.{ranking_number}
 use Rattle.replay.specs.declared.answer.Answer.{Answer}
@@ -14,7 +15,7 @@ use Rattle.run_report.specs.Sessions.{asked_with, filed_orders, ranking_of}
 use Rattle.run_report.proofs.events.answers_of.Goals as goal
 
 -- as many calls as events
-as_many : (book : FiledBook) (steps : List (Step FiledBook)) (es : List Timed) → map (asked filed_orders) steps ≡ map (asked_with (filed_orders book)) es
+as_many : {R : Type 0} {G : Ghosts R} (book : FiledRecords R G) (steps : List (Step (FiledRecords R G))) (es : List Timed) → map (asked filed_orders) steps ≡ map (asked_with (filed_orders book)) es
     → length steps ≡ length es
 as_many book steps es e = sym (length-map steps (asked filed_orders)) ∙ (ap length e ∙ length-map es (asked_with (filed_orders book)))
 
@@ -47,7 +48,7 @@ returns c =
     let did = c.in-Ok.ensures in
     let count = as_many c.args.resting (vec_items steps) es c.push_steps.ensures in
     let calls : map (asked filed_orders) c.deref.result.now ≡ map (asked_with (filed_orders c.args.resting)) es
-    = ap (λ (xs : List (Step FiledBook)). map (asked filed_orders) xs) c.deref.ensures.value ∙ c.push_steps.ensures in
+    = ap (λ (xs : List (Step _)). map (asked filed_orders) xs) c.deref.ensures.value ∙ c.push_steps.ensures in
     let same : length ws ≡ v.len = omega (arith, c.replay_by.auto.given, c.deref_mut.ensures.len) in
     let all : length ws ≤ n
     = omega (arith, same, count, ap length c.deref.ensures.value, c.in_ok-given.ensures.len, c.count-2.ensures) in (

@@ -2,7 +2,6 @@
 use Rattle.std.proofs.Common.{◌≡◌, ◌+◌, ◌≤◌, length, take, vec_items, vec_len, vec_capacity, Vec, sym, subst, arith}
 use Rattle.std.specs.declared.alloc.Global.{Global}
 use Rattle.session.specs.Records.{events_in}
-use Rattle.session.specs.declared.resting.FiledBook.{FiledBook}
 use Rattle.replay.specs.declared.step.Step.{Step}
 use Rattle.run_report.proofs.SessionSteps.{Listed, listed_all, listed_more}
 use Rattle.run_report.proofs.events.push_steps.Goals as goal
@@ -18,7 +17,7 @@ loop-place-preserved c =
     let es = events_in c.args.events.records.now in
     let k = c.loop-place.place in
     let book = c.args.resting in
-    let Next : Vec (Step FiledBook) Global → Type 0
+    let Next : Vec (Step _) Global → Type 0
     = λ v. Listed book (vec_items v) (take (k + 1) es) × (vec_len v ≡ k + 1) × (length es ≤ vec_capacity v) in
     elim c.match-event.branch [
       | in-Some w ↦

@@ -1,11 +1,10 @@
 -- The bodies of an accepted file are handed out as what they were found to be.
-use Rattle.std.proofs.Common.{◌≡◌, sym, refl, ap, ◌∙◌}
+use Rattle.std.proofs.Common.{◌≡◌, refl, ap, ◌∙◌}
 use Rattle.std.proofs.lemmas.Result.{MatchResult-at_ok}
 use Rattle.market.specs.RankingNames.{ranking_number}
 use Rattle.session.specs.declared.body.BodyKind.TheVariants.{Resting, Events}
 use Rattle.session.specs.Fields.{byte, four}
 use Rattle.session.proofs.Checks.{none_some}
-use Rattle.session.proofs.FiledRecords.{length_events, length_orders}
 use Rattle.session.proofs.HeadingRecord.{names_ranking}
 use Rattle.session.proofs.Readings.{accepts, body_clean, body_fits, heading_lawful}
 use Rattle.session.proofs.file.reading.session_of.Goals as goal
@@ -23,7 +22,6 @@ invariant_of-result-2 c =
     record {
       fitting = body_fits file Resting bs c.requires is;
       clean = none_some _ (body_clean file Resting bs c.requires is);
-      counted = sym (length_orders bs);
     }
 
 pub invariant_of-result-3 : goal.invariant_of-result-3
@@ -34,7 +32,6 @@ invariant_of-result-3 c =
     record {
       fitting = body_fits file Events bs c.requires is;
       clean = none_some _ (body_clean file Events bs c.requires is);
-      counted = sym (length_events bs);
     }
 
 pub returns : goal.returns
