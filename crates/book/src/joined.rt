@@ -1,8 +1,5 @@
 //! Two books, one after the other.
 
-ghost use Rattle.std.specs.Prelude.{◌≡◌, List, length};
-ghost use Rattle.market.specs.declared.order.OrderTerms.{OrderTerms};
-ghost use Rattle.book.specs.Answers.{AnswersAt};
 ghost use Rattle.book.specs.Lists.{joined, joined_short};
 
 use crate::{Book, MOST_ORDERS};

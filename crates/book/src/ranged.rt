@@ -1,8 +1,5 @@
 //! A book in a range of prices.
 
-ghost use Rattle.std.specs.Prelude.{◌≡◌, ℕ, List, length};
-ghost use Rattle.market.specs.declared.order.OrderTerms.{OrderTerms};
-ghost use Rattle.book.specs.Answers.{AnswersAt};
 ghost use Rattle.book.specs.Lists.{ranged, ranged_short};
 
 use crate::Book;
