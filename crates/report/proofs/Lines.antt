@@ -12,10 +12,18 @@ numbers_then (n ∷ ns) inner rest =
 line_then : (word ns inner rest : List ℕ) → line word ns inner ++ rest ≡ line word ns (inner ++ rest)
 line_then word ns inner rest = append_assoc word (numbers ns inner) rest ∙ ap (λ xs. word ++ xs) (numbers_then ns inner rest)
 
--- behind the line of what was read
-pub read_then : (ns rest : List ℕ) → (first_line ++ line (codes "read") ns []) ++ rest ≡ first_line ++ line (codes "read") ns rest
-read_then ns rest =
-    append_assoc first_line (line (codes "read") ns []) rest ∙ ap (λ xs. first_line ++ xs) (line_then (codes "read") ns [] rest)
+-- the lines of the figures, one behind the other
+pub figures_are : (r e n l k lo hi p x : ℕ)
+    → ((first_line ++ line (codes "read") (r ∷ e ∷ n ∷ l ∷ k ∷ []) []) ++ line (codes "collar") (lo ∷ hi ∷ []) []) ++ line (codes "clears") (p ∷ x ∷ []) []
+    ≡ first_line ++ figures_text r e n l k lo hi p x []
+figures_are r e n l k lo hi p x =
+    let clears = line (codes "clears") (p ∷ x ∷ []) [] in
+    let collar = line (codes "collar") (lo ∷ hi ∷ []) [] in
+    let read = r ∷ e ∷ n ∷ l ∷ k ∷ [] in
+    append_assoc (first_line ++ line (codes "read") read []) collar clears
+    ∙ (append_assoc first_line (line (codes "read") read []) (collar ++ clears)
+    ∙ ap (λ xs. first_line ++ xs)
+    (line_then (codes "read") read [] (collar ++ clears) ∙ ap (line (codes "read") read) (line_then (codes "collar") (lo ∷ hi ∷ []) [] clears)))
 
 -- behind the lines of the figures
 pub figures_then : (r e n l k lo hi p x : ℕ) (rest : List ℕ)

@@ -1,18 +1,21 @@
 //! The figures of a session's resting orders by themselves, in the collar of the last sale.
 
-ghost use Rattle.std.specs.Prelude.{◌≡◌, ◌≤◌, [], ◌∷◌, ◌++◌, length, IfOk, string_bytes, codes};
+ghost use Rattle.std.specs.Prelude.{◌≡◌, ◌≤◌, [], ◌++◌, length, IfOk, string_bytes};
 ghost use Rattle.market.specs.RankingNames.{ranking_number};
 ghost use Rattle.market.specs.Ranges.{collar_highest, collar_lowest, twice_middle};
+ghost use Rattle.session.specs.Records.{events_in, orders_in};
 ghost use Rattle.report.specs.Pricing.{Priced};
-ghost use Rattle.report.specs.Text.{figures_text, first_line, line, ranking_of};
+ghost use Rattle.report.specs.Text.{figures_text, first_line, ranking_of};
 
 use crate::pricing::cross_by;
 use book::Book;
 use cross::allotment::Allotment;
 use market::range::PriceRange;
 use reporting::FIRST_LINE;
+use session::file::SessionFile;
 use session::heading::Heading;
 use std::alloc::{AllocError, Global};
+use std::fmt::Write;
 
 /// The collar of the last sale, and the price and shares at which the resting orders would clear in it.
 #[derive(Clone, Copy)]
@@ -31,60 +34,42 @@ impl Figures {
         ensures high { result.high ≡ collar_highest heading.last_sale.cents heading.last_sale.cents }
         ensures crossed { Priced result.low result.high (ranking_of (ranking_number heading.ranking)) (B.Book.orders book.now) (twice_middle heading.last_sale.cents heading.last_sale.cents) list.old list.new result.price result.shares }
     {
-        let last = PriceRange {
-            lowest: heading.last_sale,
-            highest: heading.last_sale,
-        };
+        let last = PriceRange::from(heading.last_sale);
         let collar = last.collar();
-        match cross_by(heading.ranking, book, collar, last.twice_middle(), list) {
-            Ok(crossing) => Figures {
-                low: collar.lowest.cents,
-                high: collar.highest.cents,
-                price: crossing.price.cents,
-                shares: crossing.executed,
-            },
-            Err(_) => unreachable(),
+        let Ok(crossing) = cross_by(heading.ranking, book, collar, last.twice_middle(), list) else {
+            unreachable!()
+        };
+        Figures {
+            low: collar.lowest.cents,
+            high: collar.highest.cents,
+            price: crossing.price.cents,
+            shares: crossing.executed,
         }
     }
 }
 
-fn read_text(
-    heap: Global,
-    resting: usize,
-    events: usize,
-    note: usize,
-    heading: Heading,
-) -> Result<String, AllocError>
-    ensures { IfOk result (λ t. string_bytes t ≡ first_line ++ line (codes "read") (resting ∷ events ∷ note ∷ heading.last_sale.cents ∷ ranking_number heading.ranking ∷ []) []) }
-{
-    let last_sale = heading.last_sale.cents;
-    let ranking = heading.ranking.number();
-    format!(in heap; "{FIRST_LINE}read,{resting},{events},{note},{last_sale},{ranking}\n")
-}
-
-fn priced_text(heap: Global, figures: Figures) -> Result<String, AllocError>
-    ensures { IfOk result (λ t. string_bytes t ≡ line (codes "collar") (figures.low ∷ figures.high ∷ []) (line (codes "clears") (figures.price ∷ figures.shares ∷ []) [])) }
-{
-    let low = figures.low;
-    let high = figures.high;
-    let price = figures.price;
-    let shares = figures.shares;
-    format!(in heap; "collar,{low},{high}\nclears,{price},{shares}\n")
-}
-
-/// The text of an accepted file.
+/// The text of an accepted file but for its fills.
 pub(crate) fn figures_text(
     heap: Global,
-    resting: usize,
-    events: usize,
-    note: usize,
-    heading: Heading,
+    session: &SessionFile<'_>,
     figures: Figures,
 ) -> Result<String, AllocError>
-    ensures { IfOk result (λ t. string_bytes t ≡ first_line ++ figures_text resting events note heading.last_sale.cents (ranking_number heading.ranking) figures.low figures.high figures.price figures.shares []) }
+    ensures { IfOk result (λ t. string_bytes t ≡ first_line ++ figures_text (length (orders_in session.now.resting.records.now)) (length (events_in session.now.events.records.now)) (length session.now.note.now) session.now.heading.last_sale.cents (ranking_number session.now.heading.ranking) figures.low figures.high figures.price figures.shares []) }
 {
-    let mut text = read_text(heap, resting, events, note, heading)?;
-    let priced = priced_text(heap, figures)?;
-    text.push_str(priced.as_str())?;
+    let resting = session.resting.count();
+    let events = session.events.count();
+    let note = session.note.len();
+    let last_sale = session.heading.last_sale.cents;
+    let ranking = session.heading.ranking.number();
+    let Figures {
+        low,
+        high,
+        price,
+        shares,
+    } = figures;
+    let mut text = String::from_str(heap, FIRST_LINE)?;
+    writeln!(text, "read,{resting},{events},{note},{last_sale},{ranking}")?;
+    writeln!(text, "collar,{low},{high}")?;
+    writeln!(text, "clears,{price},{shares}")?;
     Ok(text)
 }

@@ -62,7 +62,7 @@ returns c =
     let lines : (lo hi : ℕ) → List OrderTerms → List ℕ = λ lo hi os. flat_map fill_line (allotments os (clearing_fills lo hi (ranking_of k) os t)) in
     let list = c.of-figures.new.list in
     let before = c.deref_mut.result.now in
-    let long : length before ≡ length orders = omega (arith, c.deref_mut.ensures.len, c.in_ok-list.ensures.len, c.count-orders.ensures) in
+    let long : length before ≡ length orders = omega (arith, c.deref_mut.ensures.len, c.in_ok-list.ensures.len, c.count.ensures) in
     let kept : length list ≡ c.in_ok-list.list.len = omega (arith, c.of-figures.auto.list, c.deref_mut.ensures.len) in
     let written : c.deref.result.now ≡ list = c.deref.ensures.value ∙ with_items_is c.in_ok-list.list list kept in
     let fills : flat_map fill_line c.deref.result.now ≡ lines lo hi all
@@ -70,10 +70,10 @@ returns c =
     ∙ (ap (λ m. lines m r.high orders) got.low ∙ (ap (λ m. lines lo m orders) got.high ∙ ap (lines lo hi) same)) in
     c.in_ok-push_fills.ensures
     ∙ (ap (λ bs. bs ++ flat_map fill_line c.deref.result.now) c.in_ok-text.ensures
-    ∙ (figures_then c.count-orders.result c.count.result (length f.note.now) l k r.low r.high r.price r.shares (flat_map fill_line c.deref.result.now)
+    ∙ (figures_then (length orders) (length events) (length f.note.now) l k r.low r.high r.price r.shares (flat_map fill_line c.deref.result.now)
     ∙ same_text _ _ _ _ _ _ l k _ _ _ _ _ _ _ _ _ _
-    (c.count-orders.ensures ∙ counted (present file Resting) orders no_orders)
-    (c.count.ensures ∙ counted (present file Events) events no_events)
+    (counted (present file Resting) orders no_orders)
+    (counted (present file Events) events no_events)
     (counted (present file Note) f.note.now c.requires.no_note)
     got.low
     got.high

@@ -1,16 +1,19 @@
--- The lines of the prices stand behind the line of what was read.
-use Rattle.std.proofs.Common.{ℕ, List, [], ◌∷◌, ◌++◌, string_bytes, codes, ap, ◌∙◌}
-use Rattle.market.specs.RankingNames.{ranking_number}
-use Rattle.report.specs.Text.{line}
-use Rattle.report.proofs.Lines.{read_then}
+-- What is counted and named is what the session says, line by line.
+use Rattle.std.proofs.Common.{ℕ, List, [], ◌∷◌, ◌++◌, codes, length, ap, ◌∙◌}
+use Rattle.report.specs.Text.{figures_text, first_line, line}
+use Rattle.report.proofs.Lines.{figures_are}
 use Rattle.report.proofs.figures.figures_text.Goals as goal
 
 pub returns : goal.returns
 returns c =
-    let h = c.args.heading in
+    let s = c.args.session.now in
     let g = c.args.figures in
-    let priced : List ℕ = line (codes "collar") (g.low ∷ g.high ∷ []) (line (codes "clears") (g.price ∷ g.shares ∷ []) []) in
-    c.in_ok-push_str.ensures.bytes
-    ∙ (ap (λ bs. string_bytes c.in_ok-text.text ++ bs) (c.as_str.ensures.value ∙ c.in_ok-priced.ensures)
-    ∙ (ap (λ bs. bs ++ priced) c.in_ok-text.ensures
-    ∙ read_then (c.args.resting ∷ c.args.events ∷ c.args.note ∷ h.last_sale.cents ∷ ranking_number h.ranking ∷ []) priced))
+    let l = s.heading.last_sale.cents in
+    let n = length s.note.now in
+    let read : List ℕ = line (codes "read") (c.count-resting.result ∷ c.count-events.result ∷ n ∷ l ∷ c.number-ranking.result ∷ []) [] in
+    let collar : List ℕ = line (codes "collar") (g.low ∷ g.high ∷ []) [] in
+    let clears : List ℕ = line (codes "clears") (g.price ∷ g.shares ∷ []) [] in
+    c.in_ok-writeln-3.ensures.bytes
+    ∙ (ap (λ bs. bs ++ clears) (c.in_ok-writeln-2.ensures.bytes ∙ ap (λ bs. bs ++ collar) (c.in_ok-writeln.ensures.bytes ∙ ap (λ bs. bs ++ read) c.in_ok-text.ensures.ok))
+    ∙ (figures_are c.count-resting.result c.count-events.result n l c.number-ranking.result g.low g.high g.price g.shares
+    ∙ (λ i. first_line ++ figures_text (c.count-resting.ensures i) (c.count-events.ensures i) n l (c.number-ranking.ensures i) g.low g.high g.price g.shares [])))

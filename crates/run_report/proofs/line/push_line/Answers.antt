@@ -1,7 +1,0 @@
--- The numbers stand behind the word.
-use Rattle.std.proofs.Common.{rules}
-use Rattle.std.proofs.lemmas.List.{append_assoc}
-use Rattle.run_report.proofs.line.push_line.Goals as goal
-
-pub returns : goal.returns
-returns c = search (rules, append_assoc)
