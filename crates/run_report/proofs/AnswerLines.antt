@@ -3,7 +3,7 @@ use Rattle.std.proofs.Common.{◌≡◌, ℕ, List, ◌++◌, sym, ap, ◌∙◌
 use Rattle.std.proofs.lemmas.List.{append_assoc}
 use Rattle.cross.specs.declared.allotment.Allotment.{Allotment}
 use Rattle.replay.specs.Performing.{Answer, reply}
-use Rattle.run_report.specs.Answers.{Shown, added_lines, all_lines, answer_lines, event_line, shown}
+use Rattle.run_report.specs.Answers.{Shown, added_lines, answer_lines, event_line, shown}
 
 pub told : (list : List Allotment) (place : ℕ) (s : Shown) (answer case : Answer) (before mid final : List ℕ)
     → mid ≡ before ++ event_line place s

@@ -1,4 +1,4 @@
 pub mod Digits
 pub mod AnswerLines
-pub mod SessionSteps
+pub mod SessionRuns
 pub mod RunLines

@@ -1,6 +1,6 @@
 //! The run of a session's events.
 
-ghost use Rattle.std.specs.Prelude.{◌≡◌, ◌≤◌, [], map, length, take, IfOk, vec_capacity, MatchResult};
+ghost use Rattle.std.specs.Prelude.{◌≡◌, ◌≤◌, map, length, take, IfOk, MatchResult};
 ghost use Rattle.market.specs.RankingNames.{ranking_number};
 ghost use Rattle.replay.specs.Performing.{reply};
 ghost use Rattle.replay.specs.Replaying.{Fails, Ran};
@@ -17,7 +17,7 @@ use market::ranking::RankingName;
 use replay::answer::{Answer, Effect};
 use replay::replay;
 use replay::step::{Failure, Step};
-use session::events::FiledEvents;
+use session::file::SessionFile;
 use session::heading::Heading;
 use session::resting::FiledBook;
 use std::alloc::{AllocError, Global};
@@ -39,54 +39,45 @@ fn replay_by<F: Book>(
     }
 }
 
-/// Lists the events as calls, each with the resting orders as its filed book.
-fn push_steps<'a>(
-    steps: &mut Vec<Step<FiledBook<'a>>>,
-    resting: FiledBook<'a>,
-    events: FiledEvents<'a>,
-)
-    requires empty { steps.old.items ≡ [] }
-    requires room { length (events_in events.records.now) ≤ vec_capacity steps.old }
-    ensures { map (asked filed_orders) steps.new.items ≡ map (asked_with (orders_in resting.entry.records.now)) (events_in events.entry.records.now) }
+/// The events of an accepted file as calls, each with the resting orders as its filed book.
+fn steps_of<'a>(
+    heap: Global,
+    session: &SessionFile<'a>,
+) -> Result<Vec<Step<FiledBook<'a>>>, AllocError>
+    ensures { IfOk result (λ v. map (asked filed_orders) v.items ≡ map (asked_with (orders_in session.now.resting.records.now)) (events_in session.now.events.records.now)) }
 {
-    for place in 0..events.count() {
-        if let Some(timed) = events.event(place) {
-            steps.push_reserved(Step {
-                time: timed.time,
-                event: timed.event,
-                filed: resting,
-            });
-        }
-    }
+    let filed = session.resting;
+    session
+        .events
+        .iter()
+        .map(|timed| Step {
+            time: timed.time,
+            event: timed.event,
+            filed,
+        })
+        .collect(heap)
 }
 
 /// How the events of an accepted file are answered. It fails only for want of memory.
-pub(crate) fn answers_of<'a>(
+pub(crate) fn answers_of(
     heap: Global,
-    heading: Heading,
-    resting: FiledBook<'a>,
-    events: FiledEvents<'a>,
+    session: &SessionFile<'_>,
     list: &mut [Allotment],
 ) -> Result<Vec<Answer>, AllocError>
-    ensures { IfOk result (λ v. (map reply v.items ≡ answers (ranking_of (ranking_number heading.ranking)) (first_state heading.last_sale.cents list.old) (map (asked_with (orders_in resting.entry.records.now)) (events_in events.entry.records.now))) × (list.new ≡ (after (ranking_of (ranking_number heading.ranking)) (first_state heading.last_sale.cents list.old) (map (asked_with (orders_in resting.entry.records.now)) (events_in events.entry.records.now))).list)) }
+    ensures { IfOk result (λ v. (map reply v.items ≡ answers (ranking_of (ranking_number session.now.heading.ranking)) (first_state session.now.heading.last_sale.cents list.old) (map (asked_with (orders_in session.now.resting.records.now)) (events_in session.now.events.records.now))) × (list.new ≡ (after (ranking_of (ranking_number session.now.heading.ranking)) (first_state session.now.heading.last_sale.cents list.old) (map (asked_with (orders_in session.now.resting.records.now)) (events_in session.now.events.records.now))).list)) }
 {
     let mut book = AuctionBook::new(heap)?;
-    let mut steps = Vec::with_capacity(heap, events.count())?;
-    push_steps(&mut steps, resting, events);
-    let mut given = vec![in heap; Ok(Effect::Quoted); events.count()]?;
-    let last_sale = heading.last_sale.cents;
-    match replay_by(
-        heading.ranking,
+    let steps = steps_of(heap, session)?;
+    let mut given = vec![in heap; Ok(Effect::Quoted); steps.len()]?;
+    let Heading { last_sale, ranking } = session.heading;
+    replay_by(
+        ranking,
         &mut book,
-        last_sale,
+        last_sale.cents,
         &steps,
         list,
         &mut given,
-    ) {
-        Ok(()) => Ok(given),
-        Err(failure) => match failure {
-            Failure::Refused(_) => unreachable(),
-            Failure::AnswersShort => unreachable(),
-        },
-    }
+    )
+    .unwrap();
+    Ok(given)
 }

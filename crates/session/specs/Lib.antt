@@ -10,3 +10,4 @@ pub mod FirstCauses
 pub mod Layout
 pub mod Filed
 pub mod Reading
+pub mod Going

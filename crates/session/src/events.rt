@@ -2,9 +2,11 @@
 
 use crate::record::filed::FiledRecords;
 
+mod going;
 mod listing;
 mod record;
 
+pub use going::Events;
 pub use record::EventRecord;
 
 /// The records of an events body, each of them an event.

@@ -1,0 +1,17 @@
+//! Going over the events.
+
+ghost use Rattle.std.specs.Prelude.{◌≡◌, length};
+ghost use Rattle.session.specs.Records.{events_in};
+
+use super::FiledEvents;
+use std::ops::Range;
+
+mod steps;
+
+/// The events of a file, by rising place.
+#[derive(Drop)]
+pub struct Events<'a> {
+    filed: FiledEvents<'a>,
+    places: Range<usize>,
+    ghost counted: { places.end ≡ length (events_in filed.records.now) },
+}
