@@ -4,7 +4,7 @@ pub(crate) mod contents;
 pub(crate) mod layers;
 
 /// The kinds of bodies, in their sequence in the file, by their bits in the mask.
-#[derive(Clone, Copy, PartialEq, Eq, Debug)]
+#[derive(Clone, Copy)]
 pub enum BodyKind {
     Heading = 1,
     Resting = 2,
@@ -13,6 +13,7 @@ pub enum BodyKind {
 }
 
 impl BodyKind {
+    /// All of them, in that sequence.
     pub(crate) const ALL: [BodyKind; 4] = [
         BodyKind::Heading,
         BodyKind::Resting,

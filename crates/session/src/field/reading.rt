@@ -79,6 +79,7 @@ pub(crate) fn first_bad_field(bytes: &[u8], at: usize, fields: &[Field]) -> Opti
     requires { at + span fields.now ≤ length bytes.now }
     ensures { result ≡ first_bad fields.now bytes.now at }
 {
+    // A sum of widths, and no count: an iterator's form would be a `scan`, which is no plainer.
     let mut place = at;
     for field in fields {
         if !field.values.admit(value_at(bytes, place, field.width)) {

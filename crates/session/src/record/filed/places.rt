@@ -18,6 +18,7 @@ impl<'a, R: Record> FiledRecords<'a, R> {
     pub(crate) fn get(&self, place: usize) -> Option<CleanRecord<'a, R>>
         ensures { MatchOption result (length self.now.records.now / R.SIZE ≤ place) (λ r. (r.bytes.now ≡ self.now.records.now) × (r.at ≡ R.SIZE * place) × (place < length self.now.records.now / R.SIZE)) }
     {
+        // The library's `chunks_exact(..).nth(place)` walks to the place, which would make a pass over a book quadratic.
         if place >= self.len() {
             return None;
         }
