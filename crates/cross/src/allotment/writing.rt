@@ -33,7 +33,8 @@ fn queue_side<B: Book>(book: &B, side: Side, queue: &mut [Queued]) -> usize
     count
 }
 
-/// Writes a record for each order of a side, by rising place, and answers how many; later records stay.
+/// Writes a record for each order of a side, by rising place, and answers how many; later records stay. The orders are
+/// served by the ranking: one sort, and one walk along the queue.
 fn serve_side<B: Book, R: Ranking>(
     book: &B,
     level: Level,
@@ -47,7 +48,9 @@ fn serve_side<B: Book, R: Ranking>(
     ensures records { list.new ≡ side_allotments side (B.Book.orders book.now) (fill_at level R.Ranking.good (B.Book.orders book.now)) (length (B.Book.orders book.now)) ++ drop result list.old }
 {
     let count = queue_side(book, side, queue);
-    level.serve::<R>(&mut queue[..count], list);
+    let queue = &mut queue[..count];
+    queue.sort_unstable_by(|a, b| a.standing::<R>(b));
+    level.give_out(queue, list);
     count
 }
 
