@@ -1,22 +1,15 @@
 -- The sorted queue is the queue in the ranking's sequence, so what is given out along it are the fills.
-use Rattle.std.proofs.Common.{length, take, ◌∙◌, arith, rules}
+use Rattle.std.proofs.Common.{◌<◌, length, ◌∙◌, rules}
 use Rattle.std.proofs.lemmas.List.Sorted.{All-permutation, answers_always}
 use Rattle.cross.specs.QueueOrder.{less_is}
-use Rattle.cross.specs.Queues.{HasRecord}
-use Rattle.cross.proofs.Allotting.{places_within}
-use Rattle.cross.proofs.Queueing.{as_many, slots_within}
+use Rattle.cross.proofs.Queueing.{slots_within}
 use Rattle.cross.proofs.SortedQueue.{earlier, earlier_ranks, fills_given}
 use Rattle.cross.proofs.allotment.writing.serve_side.Goals as goal
 
 pub give_out-requires : goal.give_out-requires
 give_out-requires g c =
-    let os = g.B.Book.orders c.args.book.now in
-    let queued = c.queue_side-count.ensures.queued in
-    let many = as_many c.args.side os (length os) _ queued in
-    let within = slots_within c.args.side os (length os) _ queued (length c.args.list.now)
-    (omega (arith, many, c.requires.list))
-    (omega (arith, many, places_within c.args.side os (length os), g.B.Book.short c.args.book.now)) in
-    All-permutation (HasRecord (length c.args.list.now)) _ _ c.sort_unstable_by.ensures.permutation within
+    All-permutation (λ q. q.slot < length c.args.list.now) _ _ c.sort_unstable_by.ensures.permutation
+    (slots_within c.args.side (g.B.Book.orders c.args.book.now) _ _ c.queue_side-count.ensures.queued _ c.requires)
 
 pub returns : goal.returns
 returns g c =
@@ -27,6 +20,6 @@ returns g c =
     record {
       count = c.queue_side-count.ensures.count;
       records = rw c.queue_side-count.ensures.count
-      (c.give_out.ensures
-      ∙ fills_given good laws c.args.side os _ _ _ _ c.sort_unstable_by.new.self c.queue_side-count.ensures.queued c.sort_unstable_by.ensures.permutation up c.args.level.executed c.args.list.now c.requires.list);
+          (c.give_out.ensures
+          ∙ fills_given good laws c.args.side os _ _ _ _ c.sort_unstable_by.new.self c.queue_side-count.ensures.queued c.sort_unstable_by.ensures.permutation up c.args.level.executed c.args.list.now c.requires);
     }
