@@ -1,7 +1,7 @@
 -- Queueing the orders of a side, a place at a time, and what each of them has in the queue.
 use Rattle.std.proofs.Common.{◌≡◌, ℕ, ◌+◌, ◌<◌, ◌≤◌, true, false, List, [], ◌∷◌, ◌++◌, length, drop, get_or, take, set, sym, refl, ap, ◌∙◌, subst, arith}
 use Rattle.std.proofs.lemmas.List.FromFn.{get_or-range_with_len}
-use Rattle.std.proofs.lemmas.List.Elements.{All-nil, All-push}
+use Rattle.std.proofs.lemmas.List.Elements.{All-push}
 use Rattle.std.proofs.lemmas.List.{drop-drop, get_or-drop, get_or-map, length-drop, length-map, length_push, length-take-le, map_push, take_more_set}
 use Rattle.std.specs.List.{All, range_with_len}
 use Rattle.market.specs.declared.order.Side.{Side}
@@ -10,7 +10,7 @@ use Rattle.market.specs.declared.order.OrderTerms.{OrderTerms}
 use Rattle.cross.specs.Allotments.{side_places}
 use Rattle.cross.specs.declared.queue.Queued.{Queued}
 use Rattle.cross.specs.Fills.{at_place, no_order}
-use Rattle.cross.specs.Queues.{HasRecord, Queue}
+use Rattle.cross.specs.Queues.{Queue}
 use Rattle.cross.specs.Rankings.{same_side}
 use Rattle.cross.proofs.Allotting.{counting_more, places_left, places_within, places_took, took_length}
 
@@ -63,13 +63,6 @@ module _ (side : Side) (os : List OrderTerms) where
     pub rest : drop k os ≡ ahead
     pub queued : QueuedTo k w queue
 
-  pub queueing_begins : (ahead : List OrderTerms) (queue : List Queued) → ahead ≡ os → Queueing 0 0 ahead queue
-  queueing_begins ahead queue all = record {
-    within = omega arith;
-    rest = sym all;
-    queued = (refl, record { places = refl; slots = refl; orders = All-nil OfSide });
-  }
-
   pub queueing_ends : (k w : ℕ) (ahead : List OrderTerms) (queue : List Queued) → ahead ≡ [] → Queueing k w ahead queue → QueuedTo (length os) w queue
   queueing_ends k w ahead queue none h =
       let all : k ≡ length os = omega (arith, h.within, length-drop k os, ap length (h.rest ∙ none)) in
@@ -81,21 +74,18 @@ module _ (side : Side) (os : List OrderTerms) where
     next : (k < length os) × (o ≡ at_place os k) × (rest ≡ drop (k + 1) os)
     next = next_place os k o rest (h.rest ∙ step)
 
-    pub place_within : k < length os
-    place_within = next.0
-
     -- there is a record for it
-    pub few_queued : w ≤ k
-    few_queued = omega (arith, h.queued.0, places_within side os k)
+    pub record_free : (m : ℕ) → length os ≤ m → w < m
+    record_free m l = omega (arith, next.0, h.queued.0, places_within side os k)
 
     pub queues_one : (q : Queued) → q.order.terms ≡ o → q.place ≡ k → q.slot ≡ w → same_side o.side side ≡ true → length os ≤ length queue
         → Queueing (k + 1) (w + 1) rest (set queue w q)
     queues_one q order at own mine l =
         let there : same_side side (at_place os k).side ≡ true = ap (λ (o : OrderTerms). same_side side o.side) (sym next.1) ∙ (same_turned side o.side ∙ mine) in
-        let room : w < length queue = omega (arith, few_queued, place_within) in
+        let room = record_free (length queue) l in
         let long : length (take w queue) ≡ w = length-take-le w queue (omega arith) in
         record {
-          within = omega (arith, place_within);
+          within = omega (arith, next.0);
           rest = sym next.2;
           queued = (
             omega (arith, h.queued.0, took_length side os k there),
@@ -108,7 +98,7 @@ module _ (side : Side) (os : List OrderTerms) where
         let left = places_left side os k (ap (λ (o : OrderTerms). same_side side o.side) (sym next.1) ∙ (same_turned side o.side ∙ other)) in
         let of = h.queued.1 in
         record {
-          within = omega (arith, place_within);
+          within = omega (arith, next.0);
           rest = sym next.2;
           queued = (h.queued.0 ∙ ap length (sym left), record { places = of.places ∙ sym left; slots = of.slots; orders = of.orders });
         }
@@ -127,5 +117,5 @@ module _ (side : Side) (os : List OrderTerms) where
     pub as_many : length (side_places side os n) ≡ length queue
     as_many = sym (ap length of.places) ∙ length-map queue (λ q. q.place)
 
-    pub slots_within : (m : ℕ) → length queue ≤ m → length queue ≤ 4096 → All (HasRecord m) queue
-    slots_within m h l = λ k d w. (omega (arith, slot_is k d w), omega (arith, slot_is k d w))
+    pub slots_within : (m : ℕ) → length (side_places side os n) ≤ m → All (λ q. q.slot < m) queue
+    slots_within m h k d w = omega (arith, slot_is k d w, as_many)

@@ -1,6 +1,6 @@
 -- In a sorted queue of a side what stands before an order is what is ahead of it, so that shares given out along the
 -- queue are the fills.
-use Rattle.std.proofs.Common.{◌≡◌, ℕ, zero, suc, ◌+◌, ◌-◌, ◌*◌, ◌<◌, ◌≤◌, min, Bool, true, false, cond, ◌&&◌, eqb, List, [], ◌∷◌, ◌++◌, map, length, get_or, take, drop, sum_by, filter, sym, refl, ap, ◌∙◌, arith}
+use Rattle.std.proofs.Common.{◌≡◌, ℕ, zero, suc, ◌+◌, ◌-◌, ◌*◌, ◌<◌, ◌≤◌, min, Bool, true, false, cond, ◌&&◌, eqb, List, [], ◌∷◌, ◌++◌, length, get_or, take, drop, sum_by, filter, sym, refl, ap, ◌∙◌, arith}
 use Rattle.std.proofs.lemmas.List.Folds.{fold-map}
 use Rattle.std.proofs.lemmas.List.Elements.{All-head, All-tail, Contains-get_or}
 use Rattle.std.proofs.lemmas.List.{get_or_default, get_or-drop, get_or-map, get_or-take, length-drop, length-map, length-take-le}
@@ -15,7 +15,7 @@ use Rattle.market.specs.declared.order.Side.TheVariants.{Buy, Sell}
 use Rattle.market.specs.declared.order.OrderTerms.{OrderTerms}
 use Rattle.cross.specs.declared.allotment.Allotment.{Allotment}
 use Rattle.cross.specs.declared.queue.Queued.{Queued}
-use Rattle.cross.specs.Allotments.{allotment, side_allotments, side_places}
+use Rattle.cross.specs.Allotments.{allotment, side_allotments, side_count, side_places}
 use Rattle.cross.specs.Depth.{buys, sells}
 use Rattle.cross.specs.Fills.{ahead, at_place, fill, shares_ahead, willing}
 use Rattle.cross.specs.Queues.{Queue, asks, given_out, stands_before}
@@ -187,7 +187,7 @@ module _ (good : OrderTerms → OrderTerms → Bool) (laws : Laws good) (side : 
             rw (sym (ahead_sum j d h), mine.0) (grind arith)
 
         -- each order of the queue has a record of its own
-        many : length (side_places side os n) ≡ length queue
+        many : side_count side os ≡ length queue
         many = as_many side os n queue of
 
         own_slot : (k : ℕ) (d : Queued) → k < length queue → (get_or queue k d).slot ≡ k
@@ -217,13 +217,13 @@ module _ (good : OrderTerms → OrderTerms → Bool) (laws : Laws good) (side : 
             let d = some_of queue i l in
             (get_or queue i d, Contains-permutation queue qs (get_or queue i d) moved (Contains-get_or queue i d l), own_slot i d l)
 
-        pub fills_given : (list : List Allotment) → length queue ≤ length list
-            → given_out (asks lo hi p) qs e list ≡ records ++ drop (length queue) list
+        pub fills_given : (list : List Allotment) → side_count side os ≤ length list
+            → given_out (asks lo hi p) qs e list ≡ records ++ drop (side_count side os) list
         fills_given list h =
             let none : Allotment = record { place = 0; fill = 0 } in
             given_records (asks lo hi p) rule records none qs e list
             (right_from (asks lo hi p) rule qs e gets_fill)
             (All-permutation (Owns none) queue qs moved (owns none))
-            (omega (arith, long_records))
+            (omega (arith, long_records, many))
             each_slot
-            ∙ ap (λ m. records ++ drop m list) long_records
+            ∙ ap (λ m. records ++ drop m list) (long_records ∙ sym many)

@@ -1,5 +1,5 @@
 -- The queue of a side's orders for their fills, and what giving out shares along it writes.
-use Rattle.std.specs.Prelude.{◌≡◌, ℕ, ◌-◌, ◌<◌, min, Bool, true, cond, not, ◌&&◌, ◌||◌, List, [], ◌∷◌, map, length, set, nat_lt}
+use Rattle.std.specs.Prelude.{◌≡◌, ℕ, ◌-◌, min, Bool, true, cond, not, ◌&&◌, ◌||◌, List, [], ◌∷◌, map, length, set, nat_lt}
 use Rattle.std.specs.declared.cmp.Ordering.TheVariants.{Less, Equal, Greater}
 use Rattle.std.specs.declared.cmp.Ordering.{Ordering}
 use Rattle.std.specs.List.{range_with_len, All}
@@ -30,10 +30,6 @@ pub record Queue (side : Side) (os : List OrderTerms) (n : ℕ) (queue : List Qu
   pub places : map (λ q. q.place) queue ≡ side_places side os n
   pub slots : map (λ q. q.slot) queue ≡ range_with_len 0 (length queue)
   pub orders : All (λ q. (q.order.terms ≡ at_place os q.place) × (same_side side q.order.terms.side ≡ true)) queue
-
--- the record of an order is among the first m of a list
-abbrev pub HasRecord : (m : ℕ) → Queued → Type 0
-HasRecord m q = (q.slot < m) × (q.slot < 4096)
 
 -- what a list holds once e shares are given out along the queue, to each order what it asks for while they last
 abbrev pub given_out : (ask : OrderTerms → ℕ) → List Queued → (e : ℕ) → List Allotment → List Allotment

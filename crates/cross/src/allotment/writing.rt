@@ -13,8 +13,7 @@ use book::{Book, MOST_ORDERS};
 use market::order::Side;
 
 /// Queues the orders of a side by rising place, and answers how many.
-fn queue_side<B: Book>(book: &B, side: Side, queue: &mut [Queued]) -> usize
-    requires { length (B.Book.orders book.now) ≤ length queue.old }
+fn queue_side<B: Book>(book: &B, side: Side, queue: &mut [Queued; MOST_ORDERS]) -> usize
     ensures count { result ≡ side_count side (B.Book.orders book.now) }
     ensures queued { Queue side (B.Book.orders book.now) (length (B.Book.orders book.now)) (take result queue.new) }
 {
@@ -33,21 +32,23 @@ fn queue_side<B: Book>(book: &B, side: Side, queue: &mut [Queued]) -> usize
     count
 }
 
-/// Writes a record for each order of a side, by rising place, and answers how many; later records stay.
+/// Writes a record for each order of a side, by rising place, and answers how many; later records stay. The orders are
+/// served by the ranking: one sort, and one walk along the queue.
 fn serve_side<B: Book, R: Ranking>(
     book: &B,
     level: Level,
     side: Side,
-    queue: &mut [Queued],
+    queue: &mut [Queued; MOST_ORDERS],
     list: &mut [Allotment],
 ) -> usize
-    requires queue { length (B.Book.orders book.now) ≤ length queue.old }
-    requires list { side_count side (B.Book.orders book.now) ≤ length list.old }
+    requires { side_count side (B.Book.orders book.now) ≤ length list.old }
     ensures count { result ≡ side_count side (B.Book.orders book.now) }
     ensures records { list.new ≡ side_allotments side (B.Book.orders book.now) (fill_at level R.Ranking.good (B.Book.orders book.now)) (length (B.Book.orders book.now)) ++ drop result list.old }
 {
     let count = queue_side(book, side, queue);
-    level.serve::<R>(&mut queue[..count], list);
+    let queue = &mut queue[..count];
+    queue.sort_unstable_by(|a, b| a.standing::<R>(b));
+    level.give_out(queue, list);
     count
 }
 

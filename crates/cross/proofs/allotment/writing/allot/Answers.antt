@@ -5,15 +5,11 @@ use Rattle.cross.proofs.Allotting.{both_written, sells_fit, sides_all}
 use Rattle.cross.proofs.allotment.writing.allot.Goals as goal
 
 pub serve_side-buys-requires : goal.serve_side-buys-requires
-serve_side-buys-requires g c = let os = g.B.Book.orders c.args.book.now in omega (arith, sides_all os, c.requires, g.B.Book.short c.args.book.now)
+serve_side-buys-requires g c = omega (arith, sides_all (g.B.Book.orders c.args.book.now), c.requires)
 
 pub serve_side-requires : goal.serve_side-requires
 serve_side-requires g c =
-    let os = g.B.Book.orders c.args.book.now in
-    record {
-      queue = omega (arith, g.B.Book.short c.args.book.now);
-      list = sells_fit os c.serve_side-buys.new.list _ c.serve_side-buys.ensures.count (omega (arith, c.requires, c.serve_side-buys.auto.list));
-    }
+    sells_fit (g.B.Book.orders c.args.book.now) c.serve_side-buys.new.list _ c.serve_side-buys.ensures.count (omega (arith, c.requires, c.serve_side-buys.auto.list))
 
 pub returns : goal.returns
 returns g c =

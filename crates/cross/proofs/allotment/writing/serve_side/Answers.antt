@@ -1,17 +1,25 @@
--- The queue of a side has a record for each of its orders.
-use Rattle.std.proofs.Common.{◌≡◌, length, take, arith}
-use Rattle.std.proofs.lemmas.List.{length-take-le}
-use Rattle.cross.proofs.Allotting.{places_within}
+-- The sorted queue is the queue in the ranking's sequence, so what is given out along it are the fills.
+use Rattle.std.proofs.Common.{◌<◌, length, ◌∙◌, rules}
+use Rattle.std.proofs.lemmas.List.Sorted.{All-permutation, answers_always}
+use Rattle.cross.specs.QueueOrder.{less_is}
 use Rattle.cross.proofs.Queueing.{slots_within}
+use Rattle.cross.proofs.SortedQueue.{earlier, earlier_ranks, fills_given}
 use Rattle.cross.proofs.allotment.writing.serve_side.Goals as goal
 
-pub serve-requires : goal.serve-requires
-serve-requires g c =
+pub give_out-requires : goal.give_out-requires
+give_out-requires g c =
+    All-permutation (λ q. q.slot < length c.args.list.now) _ _ c.sort_unstable_by.ensures.permutation
+    (slots_within c.args.side (g.B.Book.orders c.args.book.now) _ _ c.queue_side-count.ensures.queued _ c.requires)
+
+pub returns : goal.returns
+returns g c =
+    let good = g.R.Ranking.good in
+    let laws = g.met.R.Ranking.lawful in
     let os = g.B.Book.orders c.args.book.now in
-    let n = c.queue_side-count.result in
-    let queue = c.queue_side-count.new.queue in
-    let count = c.queue_side-count.ensures.count in
-    let long : length (take n queue) ≡ n = length-take-le n queue (omega (arith, places_within c.args.side os (length os), c.requires.queue, count, c.queue_side-count.auto.queue)) in
-    slots_within c.args.side os (length os) (take n queue) c.queue_side-count.ensures.queued (length c.args.list.now)
-    (omega (arith, long, count, c.requires.list))
-    (omega (arith, long, count, places_within c.args.side os (length os), g.B.Book.short c.args.book.now))
+    let up = c.sort_unstable_by.ensures.sorted (earlier good) (earlier_ranks good laws) (answers_always _ _ _ (λ f a r f' k. search (rules, less_is))) in
+    record {
+      count = c.queue_side-count.ensures.count;
+      records = rw c.queue_side-count.ensures.count
+          (c.give_out.ensures
+          ∙ fills_given good laws c.args.side os _ _ _ _ c.sort_unstable_by.new.self c.queue_side-count.ensures.queued c.sort_unstable_by.ensures.permutation up c.args.level.executed c.args.list.now c.requires);
+    }
