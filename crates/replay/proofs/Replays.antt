@@ -6,26 +6,15 @@ use Rattle.market.specs.Prices.{highest_price, lawful_price, lowest_price}
 use Rattle.market.specs.declared.order.OrderTerms.{OrderTerms}
 use Rattle.cross.specs.Rankings.{Laws}
 use Rattle.cross.specs.declared.allotment.Allotment.{Allotment}
-use Rattle.auction.specs.declared.auction_book.AuctionBook.{AuctionBook}
-use Rattle.replay.specs.declared.held.Held.{Held}
-use Rattle.replay.specs.declared.held.Held.TheVariants.{Open, Locked, Shut, Crossed}
 use Rattle.replay.specs.declared.step.Step.{Step}
 use Rattle.replay.specs.Account.{Balanced}
 use Rattle.auction.specs.Auctions.{Auction, started}
-use Rattle.replay.specs.Performing.{State, Reply, held_auction}
+use Rattle.replay.specs.Performing.{State, Reply}
 use Rattle.replay.specs.Replaying.{Ran}
-use Rattle.auction.specs.Rows.{accepted}
 use Rattle.replay.specs.Runs.{Asked, after, answers, asked, first_state}
 use Rattle.replay.proofs.Accounts.{AllPriced, account}
 use Rattle.replay.proofs.Bounds.{event_priced, started_bounded}
 use Rattle.replay.proofs.Deliveries.{every_call_kept}
-
--- whatever the stage, the orders are those of the book
-pub held_orders : (h : Held) (b : AuctionBook) → (held_auction h b).orders ≡ accepted b
-held_orders (Open s) b = refl
-held_orders (Locked s) b = refl
-held_orders (Shut s) b = refl
-held_orders (Crossed s) b = refl
 
 steps_priced : {F : Type 0} (orders : F → List OrderTerms) (ss : List (Step F)) → AllPriced (map (asked orders) ss)
 steps_priced orders [] = tt

@@ -1,10 +1,12 @@
 //! The calls on an auction, each with its answer.
 
-ghost use Rattle.std.specs.Prelude.{◌≡◌};
+ghost use Rattle.std.specs.Prelude.{◌≡◌, MatchResult};
 ghost use Rattle.market.specs.Calls.{cancel, cross, enter, lock, publish, quote, shut};
+ghost use Rattle.market.specs.Causes.{cause};
 ghost use Rattle.market.specs.Ranges.{cents_of};
 ghost use Rattle.auction.specs.Auctions.{auction_of, locked_auction, open_auction, shut_auction};
-ghost use Rattle.replay.specs.Performing.{Does, DoesWith, held_auction, performed, reply};
+ghost use Rattle.auction.specs.declared.auction_book.AuctionBook.{AuctionBook};
+ghost use Rattle.replay.specs.Performing.{Does, DoesWith, held_auction, moves, performed, refuses, reply};
 
 use crate::answer::{Answer, Effect};
 use crate::held::{Held, Holds};
@@ -15,6 +17,7 @@ use cross::allotment::Allotment;
 use cross::ranking::Ranking;
 use market::order::Order;
 use market::quote::Quote;
+use market::refusal::Refusal;
 
 pub(crate) fn enter_order<S: TakesOrders + Holds>(
     mut auction: Auction<S>,
@@ -65,22 +68,26 @@ pub(crate) fn publish_figures<S: Publishes + Holds, F: Book>(
     (S::hold(auction), answer)
 }
 
+/// What a change of stage leaves.
+fn moved<S: Holds, T: Holds>(done: Result<Auction<T>, (Auction<S>, Refusal)>) -> (Held, Answer)
+    ensures { MatchResult done (λ s. (reply result.1 ≡ moves) × ((b : AuctionBook) → held_auction result.0 b ≡ auction_of T.stage s b)) (λ e. (reply result.1 ≡ refuses (cause e.1)) × ((b : AuctionBook) → held_auction result.0 b ≡ auction_of S.stage e.0 b)) }
+{
+    match done {
+        Ok(next) => (T::hold(next), Ok(Effect::Moved)),
+        Err((auction, refusal)) => (S::hold(auction), Err(refusal)),
+    }
+}
+
 pub(crate) fn lock_open(auction: Open, book: &AuctionBook, time: u32) -> (Held, Answer)
     ensures { Does (open_auction auction book.now) time lock (held_auction result.0 book.now) (reply result.1) }
 {
-    match auction.lock(book, time) {
-        Ok(locked) => (Held::Locked(locked), Ok(Effect::Moved)),
-        Err((auction, refusal)) => (Held::Open(auction), Err(refusal)),
-    }
+    moved(auction.lock(book, time))
 }
 
 pub(crate) fn shut_locked(auction: Locked, book: &AuctionBook, time: u32) -> (Held, Answer)
     ensures { Does (locked_auction auction book.now) time shut (held_auction result.0 book.now) (reply result.1) }
 {
-    match auction.shut(book, time) {
-        Ok(shut) => (Held::Shut(shut), Ok(Effect::Moved)),
-        Err((auction, refusal)) => (Held::Locked(auction), Err(refusal)),
-    }
+    moved(auction.shut(book, time))
 }
 
 pub(crate) fn cross_shut<F: Book, R: Ranking>(

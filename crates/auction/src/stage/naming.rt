@@ -1,6 +1,7 @@
 //! The stages, and what each has.
 
 ghost use Rattle.std.specs.Prelude.{◌≡◌, ℕ, Bool, false, true, refl};
+ghost use Rattle.auction.specs.Schedule.{lock_time, shut_time};
 ghost use Rattle.auction.specs.Stages.{Stage, entry_end, in_collar, in_crossed, in_locked, in_open, in_shut, publishes, takes_orders, takes_quotes};
 
 use crate::schedule::{LOCK_TIME, SHUT_TIME};
@@ -71,7 +72,7 @@ impl TakesOrders for OpenStage {
 
     const IN_COLLAR: bool = false;
 
-    ghost ENTRY_END = { 34080000 };
+    ghost ENTRY_END = { lock_time };
 
     ghost IN_COLLAR = { false };
 
@@ -87,7 +88,7 @@ impl TakesOrders for LockedStage {
 
     const IN_COLLAR: bool = true;
 
-    ghost ENTRY_END = { 34190000 };
+    ghost ENTRY_END = { shut_time };
 
     ghost IN_COLLAR = { true };
 

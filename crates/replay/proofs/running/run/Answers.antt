@@ -1,5 +1,5 @@
 -- One call more, and at the end all of them.
-use Rattle.std.proofs.Common.{◌≡◌, ℕ, ◌+◌, ◌<◌, List, [], ◌∷◌, ◌++◌, map, length, take, drop, set, Result, ap, ◌∙◌, arith}
+use Rattle.std.proofs.Common.{◌≡◌, ℕ, ◌+◌, ◌<◌, List, [], ◌∷◌, ◌++◌, map, length, take, drop, set, ap, ◌∙◌, arith}
 use Rattle.std.proofs.lemmas.List.{drop-set-lt, map_push, take_more_set}
 use Rattle.replay.specs.Performing.{Answer, Reply, State, held_auction, reply}
 use Rattle.replay.specs.Runs.{answers, asked}
