@@ -36,6 +36,7 @@ impl fmt::Display for Contents<'_> {
                 write!(f, "\norder,{place},{}", ShownTerms(order.terms))?;
             }
         }
+        // The events of a file are asked for by place: they have no iterator.
         for place in (0..events).filter(|place| is_shown(*place, events)) {
             if let Some(timed) = session.events.event(place) {
                 let time = timed.time;

@@ -49,6 +49,7 @@ fn push_steps<'a>(
     requires room { length (events_in events.records.now) ≤ vec_capacity steps.old }
     ensures { map (asked filed_orders) steps.new.items ≡ map (asked_with (orders_in resting.entry.records.now)) (events_in events.entry.records.now) }
 {
+    // The events of a file are asked for by place: they have no iterator.
     for place in 0..events.count() {
         if let Some(timed) = events.event(place) {
             steps.push_reserved(Step {
