@@ -36,8 +36,8 @@ impl fmt::Display for Contents<'_> {
                 write!(f, "\norder,{place},{}", ShownTerms(order.terms))?;
             }
         }
-        for place in (0..events).filter(|place| is_shown(*place, events)) {
-            if let Some(timed) = session.events.event(place) {
+        for (place, timed) in session.events.iter().enumerate() {
+            if is_shown(place, events) {
                 let time = timed.time;
                 write!(f, "\nevent,{place},{time},{}", ShownEvent(timed.event))?;
             }

@@ -32,7 +32,10 @@ mod tests {
     #[test]
     fn a_refusal_is_told(rt: HostRuntime) -> Result<(), Fail> {
         let text = refused_text(rt.alloc(), Refusal::BodyLength(31))?;
-        assert_eq!(rt; text.as_str(), "event,answer,price,shares\nrefused,4,2,31\n");
+        assert_eq!(rt;
+            text.as_str(),
+            "event,answer,price,shares\nrefused,4,2,31\n"
+        );
         Ok(())
     }
 }
