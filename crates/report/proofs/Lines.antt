@@ -1,7 +1,8 @@
 -- A line, and then the rest: what is pushed behind lines stands behind them.
 use Rattle.std.proofs.Common.{◌≡◌, ℕ, List, [], ◌∷◌, ◌++◌, codes, decimal, refl, ap, ◌∙◌}
 use Rattle.std.proofs.lemmas.List.{append_assoc}
-use Rattle.report.specs.Text.{figures_text, first_line, line, numbers}
+use Rattle.market.specs.Causes.{Cause}
+use Rattle.report.specs.Text.{figures_text, first_line, line, numbers, refused_line}
 
 numbers_then : (ns inner rest : List ℕ) → numbers ns inner ++ rest ≡ numbers ns (inner ++ rest)
 numbers_then [] inner rest = refl
@@ -37,3 +38,7 @@ figures_then r e n l k lo hi p x rest =
     (line_then (codes "read") read (line (codes "collar") collar (line (codes "clears") clears [])) rest
     ∙ ap (line (codes "read") read)
     (line_then (codes "collar") collar (line (codes "clears") clears []) rest ∙ ap (line (codes "collar") collar) (line_then (codes "clears") clears [] rest)))
+
+-- the line of a cause is a line as the others
+pub refused_is : (c : Cause) → refused_line c ≡ line (codes "refused") (c.number ∷ c.layer ∷ c.byte ∷ []) []
+refused_is c = simp append_assoc
