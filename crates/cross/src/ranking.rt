@@ -6,6 +6,7 @@ ghost use Rattle.cross.specs.Rankings.{Laws, better_price, by_display, by_shares
 ghost use Rattle.cross.specs.RankingLaws.{display_laws, shares_laws};
 
 use market::order::{Order, OrderPrice, OrderTerms, Side};
+use market::ranking::RankingName;
 
 /// A ranking answers, from two orders alone, whether the first is at least as good as the second.
 pub trait Ranking {
@@ -48,7 +49,7 @@ fn by_price_then(a: OrderTerms, b: OrderTerms, then: bool) -> bool
 pub struct ByDisplay;
 
 impl Ranking for ByDisplay {
-    const NUMBER: u8 = 1;
+    const NUMBER: u8 = RankingName::Display as u8;
 
     ghost good = { by_display };
 
@@ -69,7 +70,7 @@ impl Ranking for ByDisplay {
 pub struct ByShares;
 
 impl Ranking for ByShares {
-    const NUMBER: u8 = 2;
+    const NUMBER: u8 = RankingName::Shares as u8;
 
     ghost good = { by_shares };
 

@@ -9,7 +9,7 @@ ghost use Rattle.report.specs.Text.{ranking_of};
 use book::Book;
 use cross::allotment::Allotment;
 use cross::crossing::{Crossing, cross};
-use cross::ranking::{ByDisplay, ByShares};
+use cross::ranking::{ByDisplay, ByShares, Ranking};
 use market::range::PriceRange;
 use market::ranking::RankingName;
 use market::refusal::Refusal;
@@ -24,8 +24,10 @@ pub(crate) fn cross_by<B: Book>(
 ) -> Result<Crossing, Refusal>
     ensures { MatchResult result (Crossed range.lowest.cents range.highest.cents (ranking_of (ranking_number ranking)) (B.Book.orders book.now) twice list.old list.new) (λ e. (cause e ≡ at 12 0 0) × (length list.old < length (B.Book.orders book.now)) × (list.new ≡ list.old)) }
 {
-    match ranking {
-        RankingName::Display => cross::<B, ByDisplay>(book, range, twice, list),
-        RankingName::Shares => cross::<B, ByShares>(book, range, twice, list),
+    // A ranking is a type that carries its number, and no closure is generic over a type: so each report chooses by itself.
+    if ranking.number() == ByDisplay::NUMBER {
+        cross::<B, ByDisplay>(book, range, twice, list)
+    } else {
+        cross::<B, ByShares>(book, range, twice, list)
     }
 }

@@ -12,7 +12,7 @@ ghost use Rattle.run_report.specs.Sessions.{asked_with, filed_orders, ranking_of
 use auction::auction_book::AuctionBook;
 use book::Book;
 use cross::allotment::Allotment;
-use cross::ranking::{ByDisplay, ByShares};
+use cross::ranking::{ByDisplay, ByShares, Ranking};
 use market::ranking::RankingName;
 use replay::answer::{Answer, Effect};
 use replay::replay;
@@ -33,9 +33,11 @@ fn replay_by<F: Book>(
 ) -> Result<(), Failure>
     ensures { MatchResult result (λ _. Ran (ranking_of (ranking_number ranking)) (first_state last_sale list.old) (map (asked F.Book.orders) steps.now) (map reply (take (length steps.now) given.new)) (accepted book.new) list.new) (Fails last_sale (length steps.now) (length given.old)) }
 {
-    match ranking {
-        RankingName::Display => replay::<F, ByDisplay>(book, last_sale, steps, list, given),
-        RankingName::Shares => replay::<F, ByShares>(book, last_sale, steps, list, given),
+    // A ranking is a type that carries its number, and no closure is generic over a type: so each report chooses by itself.
+    if ranking.number() == ByDisplay::NUMBER {
+        replay::<F, ByDisplay>(book, last_sale, steps, list, given)
+    } else {
+        replay::<F, ByShares>(book, last_sale, steps, list, given)
     }
 }
 
