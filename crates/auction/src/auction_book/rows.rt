@@ -49,7 +49,15 @@ impl AuctionBook {
             let _ = self.rows.remove(place);
             return shares;
         }
-        self.rows[place].shares -= asked;
+        lower(&mut self.rows[place], asked);
         asked
     }
+}
+
+/// Lowers the shares of one order, which keeps some.
+fn lower(row: &mut OrderTerms, by: u32)
+    requires { by < row.old.shares }
+    ensures { row.new ≡ lowered row.old by }
+{
+    row.shares -= by;
 }
