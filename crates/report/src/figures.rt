@@ -10,6 +10,7 @@ ghost use Rattle.report.specs.Text.{figures_text, first_line, ranking_of};
 use crate::pricing::cross_by;
 use book::Book;
 use cross::allotment::Allotment;
+use cross::crossing::Crossing;
 use market::range::PriceRange;
 use reporting::FIRST_LINE;
 use session::file::SessionFile;
@@ -20,31 +21,22 @@ use std::fmt::Write;
 /// The collar of the last sale, and the price and shares at which the resting orders would clear in it.
 #[derive(Clone, Copy)]
 pub(crate) struct Figures {
-    pub(crate) low: u32,
-    pub(crate) high: u32,
-    pub(crate) price: u32,
-    pub(crate) shares: u32,
+    pub(crate) collar: PriceRange,
+    pub(crate) crossing: Crossing,
 }
 
 impl Figures {
     /// Crosses the book in the collar of the last sale, by the heading's ranking, and writes the fills.
     pub(crate) fn of<B: Book>(book: &B, heading: Heading, list: &mut [Allotment]) -> Figures
         requires { length (B.Book.orders book.now) ≤ length list.old }
-        ensures low { result.low ≡ collar_lowest heading.last_sale.cents heading.last_sale.cents }
-        ensures high { result.high ≡ collar_highest heading.last_sale.cents heading.last_sale.cents }
-        ensures crossed { Priced result.low result.high (ranking_of (ranking_number heading.ranking)) (B.Book.orders book.now) (twice_middle heading.last_sale.cents heading.last_sale.cents) list.old list.new result.price result.shares }
+        ensures low { result.collar.lowest.cents ≡ collar_lowest heading.last_sale.cents heading.last_sale.cents }
+        ensures high { result.collar.highest.cents ≡ collar_highest heading.last_sale.cents heading.last_sale.cents }
+        ensures crossed { Priced result.collar.lowest.cents result.collar.highest.cents (ranking_of (ranking_number heading.ranking)) (B.Book.orders book.now) (twice_middle heading.last_sale.cents heading.last_sale.cents) list.old list.new result.crossing.price.cents result.crossing.executed }
     {
         let last = PriceRange::from(heading.last_sale);
         let collar = last.collar();
-        let Ok(crossing) = cross_by(heading.ranking, book, collar, last.twice_middle(), list) else {
-            unreachable!()
-        };
-        Figures {
-            low: collar.lowest.cents,
-            high: collar.highest.cents,
-            price: crossing.price.cents,
-            shares: crossing.executed,
-        }
+        let crossing = cross_by(heading.ranking, book, collar, last.twice_middle(), list).unwrap();
+        Figures { collar, crossing }
     }
 }
 
@@ -54,22 +46,19 @@ pub(crate) fn figures_text(
     session: &SessionFile<'_>,
     figures: Figures,
 ) -> Result<String, AllocError>
-    ensures { IfOk result (λ t. string_bytes t ≡ first_line ++ figures_text (length (orders_in session.now.resting.records.now)) (length (events_in session.now.events.records.now)) (length session.now.note.now) session.now.heading.last_sale.cents (ranking_number session.now.heading.ranking) figures.low figures.high figures.price figures.shares []) }
+    ensures { IfOk result (λ t. string_bytes t ≡ first_line ++ figures_text (length (orders_in session.now.resting.records.now)) (length (events_in session.now.events.records.now)) (length session.now.note.now) session.now.heading.last_sale.cents (ranking_number session.now.heading.ranking) figures.collar.lowest.cents figures.collar.highest.cents figures.crossing.price.cents figures.crossing.executed []) }
 {
     let resting = session.resting.count();
     let events = session.events.count();
     let note = session.note.len();
     let last_sale = session.heading.last_sale.cents;
     let ranking = session.heading.ranking.number();
-    let Figures {
-        low,
-        high,
-        price,
-        shares,
-    } = figures;
+    let PriceRange { lowest, highest } = figures.collar;
+    let Crossing { price, executed } = figures.crossing;
+    let (low, high, price) = (lowest.cents, highest.cents, price.cents);
     let mut text = String::from_str(heap, FIRST_LINE)?;
     writeln!(text, "read,{resting},{events},{note},{last_sale},{ranking}")?;
     writeln!(text, "collar,{low},{high}")?;
-    writeln!(text, "clears,{price},{shares}")?;
+    writeln!(text, "clears,{price},{executed}")?;
     Ok(text)
 }

@@ -1,8 +1,8 @@
 //! The lines of the fills.
 
-ghost use Rattle.std.specs.Prelude.{◌≡◌, ◌++◌, string_bytes, OnOk};
 ghost use Rattle.std.specs.List.{flat_map};
 ghost use Rattle.report.specs.Text.{fill_line};
+ghost use Rattle.reporting.specs.Appending.{Appends};
 
 use cross::allotment::Allotment;
 use std::alloc::AllocError;
@@ -10,7 +10,7 @@ use std::fmt::Write;
 
 /// Appends a line for each allotment.
 pub(crate) fn push_fills(text: &mut String, allotments: &[Allotment]) -> Result<(), AllocError>
-    ensures { OnOk result (string_bytes text.new ≡ string_bytes text.old ++ flat_map fill_line allotments.now) }
+    ensures { Appends result text.old text.new (flat_map fill_line allotments.now) }
 {
     for Allotment { place, fill } in allotments {
         writeln!(text, "fill,{place},{fill}")?;

@@ -31,6 +31,7 @@ fn accepted_text(heap: Global, session: &SessionFile<'_>) -> Result<String, Allo
     Ok(text)
 }
 
+// Two arms, as in `run_report`: one function for both would take them as closures, and be longer.
 /// The report of a session file: what is in it, or the one cause for which it is refused. It fails only for want
 /// of memory.
 pub fn report(heap: Global, file: &[u8]) -> Result<String, AllocError>

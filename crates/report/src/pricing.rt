@@ -24,7 +24,8 @@ pub(crate) fn cross_by<B: Book>(
 ) -> Result<Crossing, Refusal>
     ensures { MatchResult result (Crossed range.lowest.cents range.highest.cents (ranking_of (ranking_number ranking)) (B.Book.orders book.now) twice list.old list.new) (λ e. (cause e ≡ at 12 0 0) × (length list.old < length (B.Book.orders book.now)) × (list.new ≡ list.old)) }
 {
-    // A ranking is a type that carries its number, and no closure is generic over a type: so each report chooses by itself.
+    // By a rule of the project a ranking carries its number, with which the heading's is compared. Each report chooses by
+    // itself: what is chosen is a type, and no closure is generic over one.
     if ranking.number() == ByDisplay::NUMBER {
         cross::<B, ByDisplay>(book, range, twice, list)
     } else {

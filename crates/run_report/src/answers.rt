@@ -1,8 +1,9 @@
 //! The lines that tell the answers of a run.
 
-ghost use Rattle.std.specs.Prelude.{◌≡◌, ◌++◌, map, take, string_bytes, OnOk};
+ghost use Rattle.std.specs.Prelude.{◌≡◌, map, take};
 ghost use Rattle.std.specs.List.{flat_map};
 ghost use Rattle.replay.specs.Performing.{reply};
+ghost use Rattle.reporting.specs.Appending.{Appends};
 ghost use Rattle.run_report.specs.Answers.{all_lines, answer_lines, event_line, fill_line, info_line, left_line, shown};
 
 use crate::decimal::push_decimal;
@@ -47,7 +48,7 @@ fn columns_of(answer: Answer) -> Columns
 }
 
 fn push_event(text: &mut String, place: usize, columns: Columns) -> Result<(), AllocError>
-    ensures { OnOk result (string_bytes text.new ≡ string_bytes text.old ++ event_line place (record { number = columns.number; price = columns.price; shares = columns.shares })) }
+    ensures { Appends result text.old text.new (event_line place (record { number = columns.number; price = columns.price; shares = columns.shares })) }
 {
     push_decimal(text, place as u64)?;
     push_numbers(
@@ -61,7 +62,7 @@ fn push_event(text: &mut String, place: usize, columns: Columns) -> Result<(), A
 }
 
 fn push_info(text: &mut String, figures: Figures) -> Result<(), AllocError>
-    ensures { OnOk result (string_bytes text.new ≡ string_bytes text.old ++ info_line figures) }
+    ensures { Appends result text.old text.new (info_line figures) }
 {
     push_line(
         text,
@@ -80,7 +81,7 @@ fn push_info(text: &mut String, figures: Figures) -> Result<(), AllocError>
 }
 
 fn push_left(text: &mut String, outcome: Outcome) -> Result<(), AllocError>
-    ensures { OnOk result (string_bytes text.new ≡ string_bytes text.old ++ left_line outcome) }
+    ensures { Appends result text.old text.new (left_line outcome) }
 {
     push_line(
         text,
@@ -90,7 +91,7 @@ fn push_left(text: &mut String, outcome: Outcome) -> Result<(), AllocError>
 }
 
 fn push_fill(text: &mut String, allotment: Allotment) -> Result<(), AllocError>
-    ensures { OnOk result (string_bytes text.new ≡ string_bytes text.old ++ fill_line allotment) }
+    ensures { Appends result text.old text.new (fill_line allotment) }
 {
     text.push_str("fill,")?;
     push_decimal(text, allotment.place as u64)?;
@@ -99,7 +100,7 @@ fn push_fill(text: &mut String, allotment: Allotment) -> Result<(), AllocError>
 
 /// Appends a line for each allotment.
 fn push_fills(text: &mut String, allotments: &[Allotment]) -> Result<(), AllocError>
-    ensures { OnOk result (string_bytes text.new ≡ string_bytes text.old ++ flat_map fill_line allotments.now) }
+    ensures { Appends result text.old text.new (flat_map fill_line allotments.now) }
 {
     for allotment in allotments {
         push_fill(text, *allotment)?;
@@ -121,7 +122,7 @@ pub(crate) fn push_answer(
     answer: Answer,
     list: &[Allotment],
 ) -> Result<(), AllocError>
-    ensures { OnOk result (string_bytes text.new ≡ string_bytes text.old ++ answer_lines list.now place (reply answer)) }
+    ensures { Appends result text.old text.new (answer_lines list.now place (reply answer)) }
 {
     push_event(text, place, columns_of(answer))?;
     match answer {
@@ -140,7 +141,7 @@ pub(crate) fn push_answers(
     answers: &[Answer],
     list: &[Allotment],
 ) -> Result<(), AllocError>
-    ensures { OnOk result (string_bytes text.new ≡ string_bytes text.old ++ all_lines list.now 0 (map reply answers.now)) }
+    ensures { Appends result text.old text.new (all_lines list.now 0 (map reply answers.now)) }
 {
     for (place, answer) in answers.iter().enumerate() {
         push_answer(text, place, *answer, list)?;

@@ -1,14 +1,14 @@
 //! Numbers as text.
 
-ghost use Rattle.std.specs.Prelude.{◌≡◌, ◌++◌, string_bytes, OnOk};
+ghost use Rattle.reporting.specs.Appending.{Appends};
 ghost use Rattle.run_report.specs.Decimals.{DecimalRule, decimal, integer};
 
 use std::alloc::AllocError;
 
 /// Appends a decimal number: its leading digits by the same rule, and then its last digit.
-// By recursion and not by the library's `{}`: a report's numbers are written as `DecimalRule` reads.
+// A rule of the project: a run's numbers are written as `DecimalRule` reads, and no `{}` of the library is used for them.
 pub(crate) fn push_decimal(text: &mut String, n: u64) -> Result<(), AllocError>
-    ensures appended { OnOk result (string_bytes text.new ≡ string_bytes text.old ++ decimal n) }
+    ensures appended { Appends result text.old text.new (decimal n) }
     ensures rule { DecimalRule }
 {
     if n >= 10 {
@@ -19,7 +19,7 @@ pub(crate) fn push_decimal(text: &mut String, n: u64) -> Result<(), AllocError>
 
 /// Appends a number, with a minus first where it is negative.
 pub(crate) fn push_integer(text: &mut String, n: i64) -> Result<(), AllocError>
-    ensures { OnOk result (string_bytes text.new ≡ string_bytes text.old ++ integer n) }
+    ensures { Appends result text.old text.new (integer n) }
 {
     if n < 0 {
         text.push('-')?;

@@ -1,6 +1,6 @@
 //! The run of a session's events.
 
-ghost use Rattle.std.specs.Prelude.{◌≡◌, ◌≤◌, map, length, take, IfOk, MatchResult};
+ghost use Rattle.std.specs.Prelude.{◌≡◌, map, length, take, IfOk, MatchResult};
 ghost use Rattle.market.specs.RankingNames.{ranking_number};
 ghost use Rattle.replay.specs.Performing.{reply};
 ghost use Rattle.replay.specs.Replaying.{Fails, Ran};
@@ -33,7 +33,8 @@ fn replay_by<F: Book>(
 ) -> Result<(), Failure>
     ensures { MatchResult result (λ _. Ran (ranking_of (ranking_number ranking)) (first_state last_sale list.old) (map (asked F.Book.orders) steps.now) (map reply (take (length steps.now) given.new)) (accepted book.new) list.new) (Fails last_sale (length steps.now) (length given.old)) }
 {
-    // A ranking is a type that carries its number, and no closure is generic over a type: so each report chooses by itself.
+    // By a rule of the project a ranking carries its number, with which the heading's is compared. Each report chooses by
+    // itself: what is chosen is a type, and no closure is generic over one.
     if ranking.number() == ByDisplay::NUMBER {
         replay::<F, ByDisplay>(book, last_sale, steps, list, given)
     } else {
@@ -70,6 +71,7 @@ pub(crate) fn answers_of(
 {
     let mut book = AuctionBook::new(heap)?;
     let steps = steps_of(heap, session)?;
+    // Filled before it is known: `replay` gets no memory, and writes its answers into a list.
     let mut given = vec![in heap; Ok(Effect::Quoted); steps.len()]?;
     let Heading { last_sale, ranking } = session.heading;
     replay_by(

@@ -29,7 +29,7 @@ pub use reporting::MOST_INPUT;
 /// The fullest auction book, and the longest resting body behind it.
 const MOST_ALLOTMENTS: usize = MOST_ACCEPTED + MOST_RESTING;
 
-// By `push_line` and no `format!` of the refusal: every number of this text is held to the rule of `decimal`.
+// Not the one of `reporting`: tried, and the lemma from the library's decimals to `DecimalRule` wanted more than a refusal tells.
 fn refused_text(heap: Global, refusal: Refusal) -> Result<String, AllocError>
     ensures { IfOk result (λ t. string_bytes t ≡ first_line ++ refused_line (cause refusal)) }
 {
@@ -47,6 +47,7 @@ fn accepted_text(heap: Global, session: &SessionFile<'_>) -> Result<String, Allo
     requires { Accepts session.now.file.now session.now }
     ensures { IfOk result (λ t. string_bytes t ≡ first_line ++ session_lines (handed session.now)) }
 {
+    // As long as the definition's `blank_list`, whatever the session: by a rule of the project it has room for every cross.
     let mut list = [Allotment { place: 0, fill: 0 }; MOST_ALLOTMENTS];
     let answers = answers_of(heap, session, &mut list)?;
     let mut text = String::from_str(heap, FIRST_LINE)?;
@@ -54,6 +55,7 @@ fn accepted_text(heap: Global, session: &SessionFile<'_>) -> Result<String, Allo
     Ok(text)
 }
 
+// Two arms, as in `report`: one function for both would take them as closures, and be longer.
 /// The report of a session file: how each of its events is answered, or the one cause for which it is refused. It fails
 /// only for want of memory.
 pub fn report(heap: Global, file: &[u8]) -> Result<String, AllocError>

@@ -52,12 +52,12 @@ returns c =
     let r = c.of-figures.result in
     let lo = collar_lowest l l in
     let hi = collar_highest l l in
-    let price : r.price ≡ clearing_price lo hi t all
+    let price : r.crossing.price.cents ≡ clearing_price lo hi t all
     = got.crossed.at
-    ∙ (ap (λ m. clearing_price m r.high t orders) got.low ∙ (ap (λ m. clearing_price lo m t orders) got.high ∙ ap (clearing_price lo hi t) same)) in
-    let shares : r.shares ≡ executed lo hi all (clearing_price lo hi t all)
+    ∙ (ap (λ m. clearing_price m r.collar.highest.cents t orders) got.low ∙ (ap (λ m. clearing_price lo m t orders) got.high ∙ ap (clearing_price lo hi t) same)) in
+    let shares : r.crossing.executed ≡ executed lo hi all (clearing_price lo hi t all)
     = got.crossed.executes
-    ∙ (ap (λ m. executed m r.high orders (clearing_price m r.high t orders)) got.low
+    ∙ (ap (λ m. executed m r.collar.highest.cents orders (clearing_price m r.collar.highest.cents t orders)) got.low
     ∙ (ap (λ m. executed lo m orders (clearing_price lo m t orders)) got.high ∙ ap (λ os. executed lo hi os (clearing_price lo hi t os)) same)) in
     let lines : (lo hi : ℕ) → List OrderTerms → List ℕ = λ lo hi os. flat_map fill_line (allotments os (clearing_fills lo hi (ranking_of k) os t)) in
     let list = c.of-figures.new.list in
@@ -66,11 +66,11 @@ returns c =
     let kept : length list ≡ c.in_ok-list.list.len = omega (arith, c.of-figures.auto.list, c.deref_mut.ensures.len) in
     let written : c.deref.result.now ≡ list = c.deref.ensures.value ∙ with_items_is c.in_ok-list.list list kept in
     let fills : flat_map fill_line c.deref.result.now ≡ lines lo hi all
-    = ap (flat_map fill_line) (written ∙ whole orders (clearing_fills r.low r.high (ranking_of k) orders t) list before long got.crossed.fills)
-    ∙ (ap (λ m. lines m r.high orders) got.low ∙ (ap (λ m. lines lo m orders) got.high ∙ ap (lines lo hi) same)) in
+    = ap (flat_map fill_line) (written ∙ whole orders (clearing_fills r.collar.lowest.cents r.collar.highest.cents (ranking_of k) orders t) list before long got.crossed.fills)
+    ∙ (ap (λ m. lines m r.collar.highest.cents orders) got.low ∙ (ap (λ m. lines lo m orders) got.high ∙ ap (lines lo hi) same)) in
     c.in_ok-push_fills.ensures
     ∙ (ap (λ bs. bs ++ flat_map fill_line c.deref.result.now) c.in_ok-text.ensures
-    ∙ (figures_then (length orders) (length events) (length f.note.now) l k r.low r.high r.price r.shares (flat_map fill_line c.deref.result.now)
+    ∙ (figures_then (length orders) (length events) (length f.note.now) l k r.collar.lowest.cents r.collar.highest.cents r.crossing.price.cents r.crossing.executed (flat_map fill_line c.deref.result.now)
     ∙ same_text _ _ _ _ _ _ l k _ _ _ _ _ _ _ _ _ _
     (counted (present file Resting) orders no_orders)
     (counted (present file Events) events no_events)
