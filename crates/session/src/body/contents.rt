@@ -67,7 +67,7 @@ impl<'a> ListedFile<'a> {
             return 0;
         }
         let before = ones_in(self.bytes[0] & (kind.bit() - 1));
-        two_at(self.bytes, 1 + 2 * before) as usize
+        usize::from(two_at(self.bytes, 1 + 2 * before))
     }
 
     /// Where a body begins. The bound: contents of at most 17 bytes come before it, since a byte has at most eight ones,

@@ -1,7 +1,7 @@
 //! Layers 2 and 3: the lengths of the bodies, and their fields.
 
-ghost use Rattle.std.specs.Prelude.{◌≡◌, true, length, Some, None, Option, Result, MatchResult};
-ghost use Rattle.market.specs.Causes.{Cause, cause};
+ghost use Rattle.std.specs.Prelude.{◌≡◌, true, length, Some, None, Option, Result};
+ghost use Rattle.market.specs.Causes.{Cause};
 ghost use Rattle.market.specs.declared.refusal.Refusal.{Refusal};
 ghost use Rattle.session.specs.declared.body.BodyKind.{BodyKind};
 ghost use Rattle.session.specs.Told.{Told};
