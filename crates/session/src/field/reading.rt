@@ -20,6 +20,8 @@ impl Width {
     }
 }
 
+// Bytes and place stay two parameters: the definitions speak of a body's bytes and a byte of it, which a refusal names.
+
 /// The number of two bytes at a place.
 pub(crate) fn two_at(bytes: &[u8], at: usize) -> u16
     requires { at + 2 ≤ length bytes.now }
