@@ -1,5 +1,5 @@
 -- The byte of a bad field lies in the file.
-use Rattle.std.proofs.Common.{◌≡◌, ◌+◌, ◌≤◌, None, sym, ◌∙◌, arith}
+use Rattle.std.proofs.Common.{◌+◌, ◌≤◌, sym, ◌∙◌, arith}
 use Rattle.session.specs.Faults.{largest_file, wrong_length}
 use Rattle.session.proofs.Acceptance.{fits_told, fitting, none_of}
 use Rattle.session.proofs.FaultPlaces.{bad_in_file}
