@@ -80,7 +80,7 @@ impl<'a> CleanRecord<'a, EventRecord> {
     }
 }
 
-// Beside a book's two, whose contracts are those of `Book`: one pair for both would add the item, its list and its laws to `Record`.
+// As a book's two, by place: one pair for both would put the item, its list and its laws into `Record`, and be longer.
 impl<'a> FiledEvents<'a> {
     /// How many events there are.
     #[tactic(auto, using(crate::proofs::FiledRecords::length_events))]

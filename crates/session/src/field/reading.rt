@@ -63,9 +63,7 @@ impl Values {
         match self {
             Values::Zero => n == 0,
             Values::Mark => n <= 1,
-            Values::Ranking => u8::try_from(n).is_ok_and(|number| RankingName::try_from(
-                number,
-            ).is_ok()),
+            Values::Ranking => u8::try_from(n).is_ok_and(|n| RankingName::try_from(n).is_ok()),
             Values::EntryNumber => n >= 1,
             Values::Cents => Price::new(n).is_ok(),
             Values::CentsOrNone => n == 0 || Price::new(n).is_ok(),
