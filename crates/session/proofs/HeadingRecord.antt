@@ -1,8 +1,8 @@
 -- The heading: eight bytes with no bad field are a heading, and a heading has no bad field and reads as itself.
-use Rattle.std.proofs.Common.{◌≡◌, ℕ, true, eqb, List, length, None, Result, Ok, Err, sym, refl, inl, inr, arith}
-use Rattle.std.proofs.lemmas.Bool.{eqb-true, or_cases}
+use Rattle.std.proofs.Common.{◌≡◌, ◌∙◌, ap, ℕ, ◌<◌, Bool, true, false, MatchResult, List, length, None, Result, Ok, Err, refl, arith}
+use Rattle.std.proofs.lemmas.Bool.{eqb-true}
 use Rattle.std.proofs.lemmas.Bool.Decides.{nat_tests}
-use Rattle.std.specs.Result.{IsOk}
+use Rattle.std.specs.Result.{OkIff, is_ok}
 use Rattle.market.specs.RankingNames.{NamesRanking}
 use Rattle.market.specs.declared.ranking.RankingName.{RankingName}
 use Rattle.market.specs.declared.ranking.RankingName.TheVariants.{Display, Shares}
@@ -45,9 +45,19 @@ heading_read l r bs h =
     (price, (ranking, (rw zeros.0, (rw zeros.1.0, (rw zeros.1.1.0, tt))))) in
     (h.0.0, none_bad heading_fields bs 0 g, w.0, w.1.0)
 
--- a byte that the field of the ranking may hold names a ranking
-pub names_ranking : (n : ℕ) (r : Result RankingName Refusal) → NamesRanking n r → admits Ranking n ≡ true → IsOk r
-names_ranking n (Ok name) h a = refl
-names_ranking n (Err e) h a =
-    let two = or_cases (eqb n 1) (eqb n 2) a in
-    elim two [ inl one ↦ absurd (h.1 Display (sym (eqb-true n 1 one))) | inr other ↦ absurd (h.1 Shares (sym (eqb-true n 2 other))) ]
+-- a number of one byte names a ranking just where the field of the ranking may hold it
+pub ranking_named : (n : ℕ) (r : Result RankingName Refusal) → NamesRanking n r → is_ok r ≡ admits Ranking n
+ranking_named n (Ok Display) h = rw (← h) refl
+ranking_named n (Ok Shares) h = rw (← h) refl
+ranking_named n (Err e) h =
+    let one = h.1 Display in
+    let two = h.1 Shares in
+    grind (arith, nat_tests)
+
+-- the same of a number that may be more than a byte's
+pub ranking_admitted : {E : Type 0} (n : ℕ) (r : Result ℕ E) (b : Bool) (P : ℕ → Type 0) → OkIff r (n < 256) n
+    → MatchResult r P (λ _. b ≡ false)
+    → ((x : ℕ) → P x → b ≡ admits Ranking x)
+    → b ≡ admits Ranking n
+ranking_admitted n (Ok x) b P is m here = here x m ∙ ap (admits Ranking) is.1
+ranking_admitted n (Err e) b P big m here = grind (arith, nat_tests)

@@ -4,7 +4,7 @@ ghost use Rattle.std.specs.Prelude.{◌≡◌, ◌≤◌, length, Some, None, Ma
 ghost use Rattle.market.specs.Causes.{cause};
 ghost use Rattle.session.specs.Contents.{bit, contents, mask, present, start, told};
 ghost use Rattle.session.specs.Fields.{has};
-ghost use Rattle.session.specs.Faults.{contents_fault};
+ghost use Rattle.session.specs.Faults.{contents_fault, first_of, wrong_length};
 
 use super::BodyKind;
 use crate::field::two_at;
@@ -26,6 +26,13 @@ pub(crate) struct ListedFile<'a> {
 pub(crate) struct LaidFile<'a> {
     pub(crate) listed: ListedFile<'a>,
     ghost laid: { contents_fault listed.bytes.now ≡ None },
+}
+
+/// A laid file whose bodies have lengths of their kinds.
+#[derive(Clone, Copy)]
+pub(crate) struct FittedFile<'a> {
+    pub(crate) laid: LaidFile<'a>,
+    ghost fitted: { first_of (wrong_length laid.listed.bytes.now) ≡ None },
 }
 
 fn ones_in(byte: u8) -> usize
@@ -67,7 +74,7 @@ impl<'a> ListedFile<'a> {
             return 0;
         }
         let before = ones_in(self.bytes[0] & (kind.bit() - 1));
-        two_at(self.bytes, 1 + 2 * before) as usize
+        usize::from(two_at(self.bytes, 1 + 2 * before))
     }
 
     /// Where a body begins. The bound: contents of at most 17 bytes come before it, since a byte has at most eight ones,

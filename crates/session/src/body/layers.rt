@@ -1,7 +1,7 @@
 //! Layers 2 and 3: the lengths of the bodies, and their fields.
 
-ghost use Rattle.std.specs.Prelude.{◌≡◌, true, length, Some, None, Option, Result, MatchResult};
-ghost use Rattle.market.specs.Causes.{Cause, cause};
+ghost use Rattle.std.specs.Prelude.{◌≡◌, true, length, Option, Result, MatchResult};
+ghost use Rattle.market.specs.Causes.{Cause};
 ghost use Rattle.market.specs.declared.refusal.Refusal.{Refusal};
 ghost use Rattle.session.specs.declared.body.BodyKind.{BodyKind};
 ghost use Rattle.session.specs.Told.{Told};
@@ -9,7 +9,7 @@ ghost use Rattle.session.specs.Contents.{body};
 ghost use Rattle.session.specs.Faults.{bad_field, first_of, fits, wrong_field, wrong_length};
 ghost use Rattle.session.specs.Handed.{bytes_of, kind_of};
 
-use super::contents::LaidFile;
+use super::contents::{FittedFile, LaidFile};
 use super::{Body, BodyKind};
 use crate::events::EventRecord;
 use crate::field::first_bad_field;
@@ -84,28 +84,30 @@ impl<'a> LaidFile<'a> {
         Err(Refusal::BodyLength(self.listed.start_of(kind) as u16))
     }
 
+    /// Refuses a file with a body of a wrong length, by the first such body.
+    pub(crate) fn check_lengths(self) -> Result<FittedFile<'a>, Refusal>
+        ensures same { MatchResult result (λ fitted. fitted.laid.listed.bytes.now ≡ self.entry.listed.bytes.now) (λ _. Unit {0}) }
+        ensures told { Told result (first_of (wrong_length self.entry.listed.bytes.now)) }
+    {
+        check_bodies(|kind| self.check_length(kind))?;
+        Ok(FittedFile { laid: self })
+    }
+}
+
+impl<'a> FittedFile<'a> {
     /// Refuses a body with a field outside its values, by the first byte of the first such field.
     fn check_fields_of(self, kind: BodyKind) -> Result<(), Refusal>
-        requires { wrong_length self.listed.bytes.now kind ≡ None }
-        ensures { Told result (wrong_field self.entry.listed.bytes.now kind) }
+        ensures { Told result (wrong_field self.entry.laid.listed.bytes.now kind) }
     {
-        match self.body(kind).first_bad() {
-            Some(byte) => Err(Refusal::FiledField((self.listed.start_of(kind) + byte) as u16)),
+        match self.laid.body(kind).first_bad() {
+            Some(byte) => Err(Refusal::FiledField((self.laid.listed.start_of(kind) + byte) as u16)),
             None => Ok(()),
         }
     }
 
-    /// Refuses a file with a body of a wrong length, by the first such body.
-    pub(crate) fn check_lengths(self) -> Result<(), Refusal>
-        ensures { Told result (first_of (wrong_length self.entry.listed.bytes.now)) }
-    {
-        check_bodies(|kind| self.check_length(kind))
-    }
-
     /// Refuses a file with a field outside its values, by the first such byte.
     pub(crate) fn check_fields(self) -> Result<(), Refusal>
-        requires { first_of (wrong_length self.listed.bytes.now) ≡ None }
-        ensures { Told result (first_of (wrong_field self.entry.listed.bytes.now)) }
+        ensures { Told result (first_of (wrong_field self.entry.laid.listed.bytes.now)) }
     {
         check_bodies(|kind| self.check_fields_of(kind))
     }

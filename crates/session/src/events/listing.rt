@@ -4,7 +4,7 @@ ghost use Rattle.std.specs.Prelude.{◌≡◌, true, length};
 ghost use Rattle.session.specs.declared.field.Values.TheVariants.{CentsOrNone};
 ghost use Rattle.market.specs.Ranges.{cents_of};
 ghost use Rattle.market.specs.Calls.{timed};
-ghost use Rattle.session.specs.Events.{AnswersEvent, SoundEvent};
+ghost use Rattle.session.specs.Events.{AnswersEvent};
 ghost use Rattle.session.specs.Fields.{admits};
 ghost use Rattle.session.specs.Records.{entered, event_at, events_in};
 
@@ -80,6 +80,7 @@ impl<'a> CleanRecord<'a, EventRecord> {
     }
 }
 
+// As a book's two, by place: one pair for both would put the item, its list and its laws into `Record`, and be longer.
 impl<'a> FiledEvents<'a> {
     /// How many events there are.
     #[tactic(auto, using(crate::proofs::FiledRecords::length_events))]

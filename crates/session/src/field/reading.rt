@@ -20,6 +20,8 @@ impl Width {
     }
 }
 
+// Bytes and place stay two parameters: the definitions speak of a body's bytes and a byte of it, which a refusal names.
+
 /// The number of two bytes at a place.
 pub(crate) fn two_at(bytes: &[u8], at: usize) -> u16
     requires { at + 2 ≤ length bytes.now }
@@ -41,8 +43,8 @@ fn value_at(bytes: &[u8], at: usize, width: Width) -> u32
     ensures { result ≡ value width bytes.now at }
 {
     match width {
-        Width::One => bytes[at] as u32,
-        Width::Two => two_at(bytes, at) as u32,
+        Width::One => u32::from(bytes[at]),
+        Width::Two => u32::from(two_at(bytes, at)),
         Width::Four => four_at(bytes, at),
     }
 }
@@ -61,7 +63,7 @@ impl Values {
         match self {
             Values::Zero => n == 0,
             Values::Mark => n <= 1,
-            Values::Ranking => n == RankingName::Display as u32 || n == RankingName::Shares as u32,
+            Values::Ranking => u8::try_from(n).is_ok_and(|n| RankingName::try_from(n).is_ok()),
             Values::EntryNumber => n >= 1,
             Values::Cents => Price::new(n).is_ok(),
             Values::CentsOrNone => n == 0 || Price::new(n).is_ok(),

@@ -24,8 +24,8 @@ fn check<'a>(file: &'a [u8]) -> Result<LaidFile<'a>, Refusal>
     ensures { MatchResult result (λ laid. (laid.listed.bytes.now ≡ file.now) × (fault file.now ≡ None)) (λ e. fault file.now ≡ Some (cause e)) }
 {
     let laid = check_contents(file)?;
-    laid.check_lengths()?;
-    laid.check_fields()?;
+    let fitted = laid.check_lengths()?;
+    fitted.check_fields()?;
     Ok(laid)
 }
 

@@ -18,6 +18,7 @@ pub struct FiledRecords<'a, R: Record> {
     ghost clean: { bad_field R.body records.now ≡ None },
 }
 
+// By hand: with a type parameter, a derive or `derive_where` over a ghost field is refused (derive-over-ghost-field).
 impl<'a, R: Record> Clone for FiledRecords<'a, R> {
     ghost is_clone = { λ x y. y ≡ x };
 

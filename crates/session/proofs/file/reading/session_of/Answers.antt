@@ -4,14 +4,14 @@ use Rattle.std.proofs.lemmas.Result.{MatchResult-at_ok}
 use Rattle.market.specs.RankingNames.{ranking_number}
 use Rattle.session.specs.declared.body.BodyKind.TheVariants.{Resting, Events}
 use Rattle.session.specs.Fields.{byte, four}
-use Rattle.session.proofs.HeadingRecord.{names_ranking}
+use Rattle.session.proofs.HeadingRecord.{ranking_named}
 use Rattle.session.proofs.Readings.{accepts, body_clean, body_fits, heading_lawful}
 use Rattle.session.proofs.file.reading.session_of.Goals as goal
 
 pub unwrap-requires : goal.unwrap-requires
 unwrap-requires c =
     let lawful = heading_lawful c.args.file.listed.bytes.now c.bytes-heading.result.now c.requires (c.bytes-heading.ensures ∙ c.body.ensures.bytes) in
-    names_ranking _ c.try_from.result c.try_from.ensures lawful.1
+    ranking_named _ c.try_from.result c.try_from.ensures ∙ lawful.1
 
 pub invariant_of-result-2 : goal.invariant_of-result-2
 invariant_of-result-2 c =
