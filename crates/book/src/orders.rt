@@ -22,6 +22,7 @@ impl<'b, B: Book> Iterator for Orders<'b, B> {
     ghost remaining = { item_count (ahead B.Book.orders) };
 
     fn next(&mut self) -> Option<Order> {
+        // A book is asked until it has no more: a `Range` would need its end, and a ghost field to say so.
         let order = self.book.order(self.place)?;
         self.place += 1;
         Some(order)

@@ -1,9 +1,10 @@
 -- A ranking orders any queue: which of two orders stands before the other is a total order of orders at places, in
 -- which two are equal only at one place.
-use Rattle.std.proofs.Common.{◌≡◌, ℕ, Bool, true, false, cond, not, Ordering, Less, Equal, Greater, refl, arith}
+use Rattle.std.proofs.Common.{◌≡◌, ℕ, ◌+◌, Bool, true, false, cond, not, List, get_or, Ordering, Less, Equal, Greater, sym, refl, ◌∙◌, arith}
 use Rattle.std.proofs.lemmas.Bool.Decides.{nat_tests}
-use Rattle.std.specs.Cmp.{IsStrictWeakOrder, IsTotalOrder}
-use Rattle.std.specs.Ordering.{is_lt}
+use Rattle.std.specs.Cmp.{IsEquivalence, IsPartialEquivalence, IsPartialOrder, IsStrictWeakOrder, IsTotalOrder, eq_by_cmp_equiv, partial_equiv_from_equiv, po}
+use Rattle.std.specs.Ordering.{as_partial_cmp, eq_by_cmp, is_lt}
+use Rattle.std.specs.List.Sorted.{IsSorted, IsSortedBy}
 use Rattle.market.specs.declared.order.Side.{Side}
 use Rattle.market.specs.declared.order.Side.TheVariants.{Buy, Sell}
 use Rattle.market.specs.declared.order.OrderTerms.{OrderTerms}
@@ -116,3 +117,21 @@ module _ (good : OrderTerms → OrderTerms → Bool) (laws : Laws good) where
 
     pub total : IsTotalOrder compared
     total = total_from_ranks earlier ranked
+
+    -- what a sort by it ensures
+    pub sorted : (xs : List X) → IsSorted compared xs → IsSortedBy earlier xs
+    sorted xs up k d l h =
+        let x = get_or xs (k + 1) d in
+        let y = get_or xs k d in
+        sym (less_is (earlier x y) (earlier y x)) ∙ up k d l h
+
+    -- ---- the laws of its comparisons
+
+    pub alike_laws : IsEquivalence (eq_by_cmp compared)
+    alike_laws = eq_by_cmp_equiv total
+
+    pub equal_laws : IsPartialEquivalence (eq_by_cmp compared)
+    equal_laws = partial_equiv_from_equiv alike_laws
+
+    pub partial_laws : IsPartialOrder (eq_by_cmp compared) (as_partial_cmp compared)
+    partial_laws = po total (λ x y. refl)

@@ -57,6 +57,7 @@ fn search<B: Book + Drop>(ranged: &Ranged<B>, twice: u32) -> Price
         cents: (twice / 2).clamp(lowest.cents, highest.cents),
     };
     let depth = Depth::at(ranged, middle);
+    // A `for` over the two sides and their ends saves a line, and needs an invariant and its cases: no plainer.
     if !depth.serves(Side::Buy) {
         return first_served(ranged, Side::Buy, middle, highest);
     }
@@ -70,6 +71,7 @@ fn search<B: Book + Drop>(ranged: &Ranged<B>, twice: u32) -> Price
 pub fn clearing_price<B: Book>(book: &B, range: PriceRange, twice: u32) -> Price
     ensures { result.cents ≡ clearing_price range.lowest.cents range.highest.cents twice (B.Book.orders book.now) }
 {
+    // `range` and `twice` go together here and in `cross`: the signatures that callers have stay.
     let ranged = Ranged {
         book: Lent { book },
         range,

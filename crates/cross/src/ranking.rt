@@ -27,9 +27,8 @@ fn is_better(side: Side, a: OrderPrice, b: OrderPrice) -> bool
     ensures { result ≡ better_price side a b }
 {
     match (a, b) {
-        (OrderPrice::Market, OrderPrice::Market) => false,
-        (OrderPrice::Market, OrderPrice::Limit(_)) => true,
-        (OrderPrice::Limit(_), OrderPrice::Market) => false,
+        (_, OrderPrice::Market) => false,
+        (OrderPrice::Market, _) => true,
         (OrderPrice::Limit(a), OrderPrice::Limit(b)) => match side {
             Side::Buy => b < a,
             Side::Sell => a < b,
@@ -56,12 +55,7 @@ impl Ranking for ByDisplay {
     ghost lawful = { display_laws };
 
     fn as_good(a: Order, b: Order) -> bool {
-        let earlier = a.terms.entry <= b.terms.entry;
-        let first = if a.terms.displayed {
-            !b.terms.displayed || earlier
-        } else {
-            !b.terms.displayed && earlier
-        };
+        let first = (b.terms.displayed, a.terms.entry) <= (a.terms.displayed, b.terms.entry);
         by_price_then(a.terms, b.terms, first)
     }
 }
@@ -77,9 +71,7 @@ impl Ranking for ByShares {
     ghost lawful = { shares_laws };
 
     fn as_good(a: Order, b: Order) -> bool {
-        let earlier = a.terms.entry <= b.terms.entry;
-        let first = b.terms.shares < a.terms.shares
-            || (a.terms.shares == b.terms.shares && earlier);
+        let first = (b.terms.shares, a.terms.entry) <= (a.terms.shares, b.terms.entry);
         by_price_then(a.terms, b.terms, first)
     }
 }

@@ -17,7 +17,7 @@ fn queue_side<B: Book>(book: &B, side: Side, queue: &mut [Queued; MOST_ORDERS]) 
     ensures count { result ≡ side_count side (B.Book.orders book.now) }
     ensures queued { Queue side (B.Book.orders book.now) (length (B.Book.orders book.now)) (take result queue.new) }
 {
-    // A count beside an array: see `allot`.
+    // An array: see `allot`. The count is answered: `filter(..).enumerate()` would keep `slot + 1` as well.
     let mut count = 0;
     for (place, order) in book.iter().enumerate() {
         if order.terms.side == side {

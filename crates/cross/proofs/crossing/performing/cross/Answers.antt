@@ -1,10 +1,7 @@
 -- The price, the shares and the fills are those of the definitions, of which the theorem holds.
-use Rattle.std.proofs.Common.{◌≡◌, min, ap, ◌∙◌}
-use Rattle.cross.specs.declared.depth.Depth.{Depth}
-use Rattle.cross.specs.Allotments.{allotted}
+use Rattle.std.proofs.Common.{◌≡◌, sym, refl}
 use Rattle.cross.specs.Clearing.{clearing_price}
 use Rattle.cross.specs.Depth.{executed}
-use Rattle.cross.specs.Fills.{fill}
 use Rattle.cross.proofs.BestCross.{best}
 use Rattle.cross.proofs.FillSums.{fair, fills_sum}
 use Rattle.cross.proofs.crossing.performing.cross.Goals as goal
@@ -20,14 +17,11 @@ returns g c =
     let p = clearing_price lo hi t os in
     let price = c.clearing_price-price.ensures in
     let shares : c.executed-executed.result ≡ executed lo hi os p
-    = c.executed-executed.ensures
-    ∙ (ap (λ (d : Depth). min d.bought d.sold) c.of.ensures ∙ ap (executed lo hi os) price) in
+    = rw (c.executed-executed.ensures, c.of.ensures, price) (refl {a = executed lo hi os p}) in
     record {
       price = price;
       shares = shares;
-      written = c.allot.ensures
-          ∙ (ap (λ q. allotted os (fill lo hi good os q c.executed-executed.result) c.args.list.now) price
-          ∙ ap (λ e. allotted os (fill lo hi good os p e) c.args.list.now) shares);
+      written = rw (sym shares, sym price) c.allot.ensures;
       best = best lo hi os good laws (λ side q e. fills_sum lo hi good laws os side q e) t c.args.range.ordered;
       fair = fair lo hi good laws os p (executed lo hi os p);
     }
