@@ -22,7 +22,7 @@ pub struct Figures {
 /// What a cross did.
 #[derive(Clone, Copy)]
 pub struct Outcome {
-    /// The price in cents; 0 where no share executed.
+    /// The price in cents; where no share executed, 0 by the rule, as it is published.
     pub price: u32,
     /// The shares executed on each side.
     pub executed: u32,
@@ -32,6 +32,6 @@ pub struct Outcome {
     pub ended: u32,
     /// The unfilled shares of its orders that stay, released to the continuous book.
     pub released: u32,
-    /// How many records of the allotment list were written.
+    /// How many records of the allotment list were written. The list is the caller's: a cross gets no memory.
     pub records: usize,
 }

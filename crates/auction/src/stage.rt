@@ -1,5 +1,7 @@
 //! An auction at one of its stages. Only a start makes the first, a stage becomes the next by a call that takes it, and none
-//! can be copied. A stage has the calls that its traits give it. The auction book is lent at each call.
+//! can be copied. A stage has the calls that its traits give it, and those of its own type.
+//!
+//! Every call is lent the auction book, by a rule of the project: so each takes the book and a time.
 
 use market::price::Price;
 use market::quote::Quote;
@@ -26,9 +28,9 @@ pub use starting::start;
 #[derive(Drop)]
 struct Progress {
     last_sale: Price,
-    /// The time of the last accepted call, 0 at the start.
+    /// The time of the last accepted call, 0 at the start by the rule.
     last_time: u32,
-    /// The last accepted entry number, 0 at the start.
+    /// The last accepted entry number, 0 at the start by the rule.
     last_entry: u16,
     quote: Quote,
 }

@@ -29,10 +29,10 @@ pub data Reply : Type 0 where
   moves : Reply
   crosses : Outcome → Reply
 
--- what the program's own answers say
 abbrev pub Answer : Type 0
 Answer = Result Effect Refusal
 
+-- what the program's own answers say
 abbrev pub reply : Answer → Reply
 reply (Err e) = refuses (cause e)
 reply (Ok (Entered n)) = enters n

@@ -99,6 +99,7 @@ pub(crate) fn cross_shut<F: Book, R: Ranking>(
 ) -> (Held, Answer)
     ensures { record { next = record { auction = held_auction result.0 book.new; list = list.new }; answer = reply result.1 } ≡ performed R.Ranking.good (record { auction = shut_auction auction book.old; list = list.old }) (F.Book.orders filed.now) time cross }
 {
+    // Tried as `moved`, of a result with the effect in it: the proof did not close.
     match auction.cross::<F, R>(book, time, filed, list) {
         Ok((crossed, outcome)) => (Held::Crossed(crossed), Ok(Effect::Crossed(outcome))),
         Err((auction, refusal)) => (Held::Shut(auction), Err(refusal)),

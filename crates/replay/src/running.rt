@@ -19,7 +19,8 @@ use book::Book;
 use cross::allotment::Allotment;
 use cross::ranking::Ranking;
 
-/// Performs the calls one after the other, and writes their answers; a refused call does not end the run.
+/// Performs the calls one after the other, and writes their answers; a refused call does not end the run. The answers go
+/// into a lent list: a run gets no memory.
 fn run<F: Book, R: Ranking>(
     stage: Open,
     book: &mut AuctionBook,

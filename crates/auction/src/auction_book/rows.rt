@@ -1,7 +1,6 @@
 //! What the calls do to the auction book.
 
-ghost use Rattle.std.specs.Prelude.{◌≡◌, ◌<◌, [], ◌∷◌, ◌++◌, length, IfSome, IfOk, slice_set};
-ghost use Rattle.cross.specs.Fills.{at_place};
+ghost use Rattle.std.specs.Prelude.{◌≡◌, ◌<◌, [], ◌∷◌, ◌++◌, length, IfSome, IfOk};
 ghost use Rattle.auction.specs.Rows.{accepted, left_at, lowered, place_of, taken_at};
 
 use super::{AuctionBook, MOST_ACCEPTED};
@@ -54,7 +53,8 @@ impl AuctionBook {
     }
 }
 
-/// Lowers the shares of one order, which keeps some.
+/// Lowers the shares of one order, which keeps some. The row is lent to a function of its own by a rule of the project: a row
+/// is changed in one place.
 fn lower(row: &mut OrderTerms, by: u32)
     requires { by < row.old.shares }
     ensures { row.new ≡ lowered row.old by }

@@ -30,9 +30,7 @@ impl Open {
             return Err(Refusal::Value);
         }
         self.progress.check_time(time, 0..LOCK_TIME)?;
-        let Some(place) = book.find(entry_number) else {
-            return Err(Refusal::NoSuchOrder);
-        };
+        let place = book.find(entry_number).ok_or(Refusal::NoSuchOrder)?;
         let taken = book.withdraw(place, shares);
         self.progress.last_time = time;
         Ok(taken)
