@@ -16,7 +16,7 @@ pub const MOST_ACCEPTED: usize = 256;
 /// refused for want of memory; nothing but a start and the calls of the auction's stages writes it.
 #[derive(Drop)]
 pub struct AuctionBook {
-    // Of `OrderTerms`, so that the book's list is the rows. Tried with `Order`: over that map `find` and `withdraw` did not close.
+    // Of terms, so that the book's list is the rows themselves: with `Order` here each proof would go over a map of them.
     rows: Vec<OrderTerms>,
     ghost few: { vec_len rows ≤ 256 },
     ghost room: { 256 ≤ vec_capacity rows },

@@ -24,7 +24,7 @@ fn accepted_text(heap: Global, session: &SessionFile<'_>) -> Result<String, Allo
     requires { Accepts session.now.file.now session.now }
     ensures { IfOk result (λ t. string_bytes t ≡ first_line ++ session_lines (handed session.now)) }
 {
-    let mut list = vec![in heap; Allotment { place: 0, fill: 0 }; session.resting.count()]?;
+    let mut list = vec![in heap; Allotment::default(); session.resting.count()]?;
     let figures = Figures::of(&session.resting, session.heading, &mut list);
     let mut text = figures_text(heap, session, figures)?;
     push_fills(&mut text, &list)?;

@@ -48,7 +48,7 @@ fn accepted_text(heap: Global, session: &SessionFile<'_>) -> Result<String, Allo
     ensures { IfOk result (λ t. string_bytes t ≡ first_line ++ session_lines (handed session.now)) }
 {
     // As long as the definition's `blank_list`, whatever the session: by a rule of the project it has room for every cross.
-    let mut list = [Allotment { place: 0, fill: 0 }; MOST_ALLOTMENTS];
+    let mut list = [Allotment::default(); MOST_ALLOTMENTS];
     let answers = answers_of(heap, session, &mut list)?;
     let mut text = String::from_str(heap, FIRST_LINE)?;
     push_answers(&mut text, &answers, &list)?;
