@@ -1,5 +1,7 @@
 -- What crossing a book promises.
-use Rattle.std.specs.Prelude.{◌≡◌, ℕ, Bool, List}
+use Rattle.std.specs.Prelude.{◌≡◌, ℕ, ◌<◌, Bool, List, length}
+use Rattle.market.specs.Causes.{at, cause}
+use Rattle.market.specs.declared.refusal.Refusal.{Refusal}
 use Rattle.market.specs.declared.order.OrderTerms.{OrderTerms}
 use Rattle.cross.specs.declared.allotment.Allotment.{Allotment}
 use Rattle.cross.specs.declared.crossing.Crossing.{Crossing}
@@ -12,6 +14,10 @@ use Rattle.cross.specs.Fills.{fill}
 -- the fills at the clearing price, where as many shares execute as there can
 abbrev pub clearing_fills : (lowest highest : ℕ) → (OrderTerms → OrderTerms → Bool) → List OrderTerms → (twice : ℕ) → ℕ → ℕ
 clearing_fills lo hi good os t = fill lo hi good os (clearing_price lo hi t os) (executed lo hi os (clearing_price lo hi t os))
+
+-- refused by number 12, since the list is shorter than the book; it stays as it was
+abbrev pub TooShort : List OrderTerms → (before after : List Allotment) → Refusal → Type 0
+TooShort os before after e = (cause e ≡ at 12 0 0) × (length before < length os) × (after ≡ before)
 
 -- The price and the shares are those of the definitions, the list holds the fills, and with these fills no rival does
 -- better and the ranking is kept.

@@ -9,6 +9,7 @@ use market::order::OrderPrice;
 pub(crate) fn limit_of(price: OrderPrice) -> u32
     ensures { result ≡ limit_of price }
 {
+    // 0 by the definition; no counted price is market.
     match price {
         OrderPrice::Market => 0,
         OrderPrice::Limit(cents) => cents,

@@ -40,6 +40,7 @@ impl Queued {
     pub(crate) fn standing<R: Ranking>(&self, other: &Queued) -> Ordering
         ensures { result ≡ standing R.Ranking.good self.now.order.terms self.now.place other.now.order.terms other.now.place }
     {
+        // By hand: a ranking answers one test of two orders, and gives no key to compare.
         if self.stands_before::<R>(other) {
             Ordering::Less
         } else if self.place != other.place || other.stands_before::<R>(self) {

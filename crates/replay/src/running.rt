@@ -42,6 +42,7 @@ fn run<F: Book, R: Ranking>(
     }
 }
 
+// What a run writes is lent piece by piece: the signature that callers have.
 /// Starts an auction from a last sale, in cents, on a book that it empties, and performs a list of timed calls on it, the
 /// cross under a ranking into the allotment list. Writes the answer to each call; one that the stage lacks is answered by
 /// number 13; later answers stay. Where the last sale is no price, or there are more calls than room for answers, nothing

@@ -1,9 +1,8 @@
 //! What the resting orders of a session would do by themselves, in the collar of the last sale.
 
-ghost use Rattle.std.specs.Prelude.{◌≡◌, ◌<◌, length, MatchResult};
-ghost use Rattle.market.specs.Causes.{at, cause};
+ghost use Rattle.std.specs.Prelude.{MatchResult};
 ghost use Rattle.market.specs.RankingNames.{ranking_number};
-ghost use Rattle.cross.specs.Crossing.{Crossed};
+ghost use Rattle.cross.specs.Crossing.{Crossed, TooShort};
 ghost use Rattle.report.specs.Text.{ranking_of};
 
 use book::Book;
@@ -22,10 +21,10 @@ pub(crate) fn cross_by<B: Book>(
     twice: u32,
     list: &mut [Allotment],
 ) -> Result<Crossing, Refusal>
-    ensures { MatchResult result (Crossed range.lowest.cents range.highest.cents (ranking_of (ranking_number ranking)) (B.Book.orders book.now) twice list.old list.new) (λ e. (cause e ≡ at 12 0 0) × (length list.old < length (B.Book.orders book.now)) × (list.new ≡ list.old)) }
+    ensures { MatchResult result (Crossed range.lowest.cents range.highest.cents (ranking_of (ranking_number ranking)) (B.Book.orders book.now) twice list.old list.new) (TooShort (B.Book.orders book.now) list.old list.new) }
 {
-    // By a rule of the project a ranking carries its number, with which the heading's is compared. Each report chooses by
-    // itself: what is chosen is a type, and no closure is generic over one.
+    // A rule of the project: a ranking carries its number, and is chosen by it, which a `match` on the name would leave aside.
+    // Each report chooses by itself: what is chosen is a type, and no closure is generic over one.
     if ranking.number() == ByDisplay::NUMBER {
         cross::<B, ByDisplay>(book, range, twice, list)
     } else {

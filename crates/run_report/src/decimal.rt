@@ -18,6 +18,7 @@ pub(crate) fn push_decimal(text: &mut String, n: u64) -> Result<(), AllocError>
 }
 
 /// Appends a number, with a minus first where it is negative.
+// By the same rule of the project.
 pub(crate) fn push_integer(text: &mut String, n: i64) -> Result<(), AllocError>
     ensures { Appends result text.old text.new (integer n) }
 {

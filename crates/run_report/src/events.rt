@@ -33,8 +33,8 @@ fn replay_by<F: Book>(
 ) -> Result<(), Failure>
     ensures { MatchResult result (λ _. Ran (ranking_of (ranking_number ranking)) (first_state last_sale list.old) (map (asked F.Book.orders) steps.now) (map reply (take (length steps.now) given.new)) (accepted book.new) list.new) (Fails last_sale (length steps.now) (length given.old)) }
 {
-    // By a rule of the project a ranking carries its number, with which the heading's is compared. Each report chooses by
-    // itself: what is chosen is a type, and no closure is generic over one.
+    // A rule of the project: a ranking carries its number, and is chosen by it, which a `match` on the name would leave aside.
+    // Each report chooses by itself: what is chosen is a type, and no closure is generic over one.
     if ranking.number() == ByDisplay::NUMBER {
         replay::<F, ByDisplay>(book, last_sale, steps, list, given)
     } else {

@@ -23,6 +23,7 @@ impl BodyKind {
 }
 
 /// A body as the part of the file that it is.
+// By a rule of the project it is told by its case, so that each case borrows its bytes.
 #[derive(Clone, Copy)]
 pub enum Body<'a> {
     Heading(&'a [u8]),

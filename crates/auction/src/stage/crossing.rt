@@ -1,7 +1,7 @@
 //! The cross of the whole book.
 
-ghost use Rattle.std.specs.Prelude.{◌≡◌, ◌<◌, ◌≤◌, length, if◌then◌else◌, MatchResult, nat_eq};
-ghost use Rattle.market.specs.Causes.{at, cause};
+ghost use Rattle.std.specs.Prelude.{◌≡◌, ◌≤◌, length, if◌then◌else◌, MatchResult, nat_eq};
+ghost use Rattle.cross.specs.Crossing.{TooShort};
 ghost use Rattle.auction.specs.Auctions.{auction_at, whole};
 ghost use Rattle.auction.specs.Outcomes.{list_after, outcome};
 ghost use Rattle.auction.specs.Rows.{accepted};
@@ -46,7 +46,7 @@ impl Progress {
         filed: &F,
         list: &mut [Allotment],
     ) -> Result<Outcome, Refusal>
-        ensures { MatchResult result (λ o. (o ≡ outcome (auction_at in_shut self.now (accepted book.now)) (F.Book.orders filed.now) R.Ranking.good) × (list.new ≡ list_after (auction_at in_shut self.now (accepted book.now)) (F.Book.orders filed.now) R.Ranking.good list.old) × (length (whole (auction_at in_shut self.now (accepted book.now)) (F.Book.orders filed.now)) ≤ length list.old)) (λ e. (cause e ≡ at 12 0 0) × (length list.old < length (whole (auction_at in_shut self.now (accepted book.now)) (F.Book.orders filed.now))) × (list.new ≡ list.old)) }
+        ensures { MatchResult result (λ o. (o ≡ outcome (auction_at in_shut self.now (accepted book.now)) (F.Book.orders filed.now) R.Ranking.good) × (list.new ≡ list_after (auction_at in_shut self.now (accepted book.now)) (F.Book.orders filed.now) R.Ranking.good list.old) × (length (whole (auction_at in_shut self.now (accepted book.now)) (F.Book.orders filed.now)) ≤ length list.old)) (TooShort (whole (auction_at in_shut self.now (accepted book.now)) (F.Book.orders filed.now)) list.old list.new) }
     {
         let range = self.reference_range();
         let whole = Joined {

@@ -1,8 +1,7 @@
 //! The cross of any book under any ranking.
 
-ghost use Rattle.std.specs.Prelude.{◌≡◌, ◌<◌, length, MatchResult};
-ghost use Rattle.market.specs.Causes.{at, cause};
-ghost use Rattle.cross.specs.Crossing.{Crossed};
+ghost use Rattle.std.specs.Prelude.{MatchResult};
+ghost use Rattle.cross.specs.Crossing.{Crossed, TooShort};
 
 use super::Crossing;
 use crate::allotment::Allotment;
@@ -24,7 +23,7 @@ pub fn cross<B: Book, R: Ranking>(
     twice: u32,
     list: &mut [Allotment],
 ) -> Result<Crossing, Refusal>
-    ensures { MatchResult result (Crossed range.lowest.cents range.highest.cents R.Ranking.good (B.Book.orders book.now) twice list.old list.new) (λ e. (cause e ≡ at 12 0 0) × (length list.old < length (B.Book.orders book.now)) × (list.new ≡ list.old)) }
+    ensures { MatchResult result (Crossed range.lowest.cents range.highest.cents R.Ranking.good (B.Book.orders book.now) twice list.old list.new) (TooShort (B.Book.orders book.now) list.old list.new) }
 {
     if list.len() < book.count() {
         return Err(Refusal::AllotmentShort);

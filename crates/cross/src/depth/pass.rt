@@ -17,6 +17,7 @@ impl Depth {
     {
         let shares = order.terms.shares;
         let limit = limit_of(order.terms.price);
+        // Not by `Level::is_willing`: one look at an order gives two sums, at the price and beyond it.
         let mut depth = self;
         match order.terms.side {
             Side::Buy => {

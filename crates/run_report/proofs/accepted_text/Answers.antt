@@ -29,7 +29,8 @@ returns c =
     let state = first_state h.last_sale.cents blank_list in
     let Lines : List OrderTerms → List Timed → List ℕ
     = λ os es. run_lines good 0 state (map (asked_with os) es) in
-    let did = c.in_ok-answers.ensures in
+    let blank : c.default-list.result ≡ record { place = 0; fill = 0 } = (λ i. record { place = c.default-list.ensures.0 i; fill = c.default-list.ensures.1 i }) in
+    let did = rw blank at c.in_ok-answers.ensures in
     let lines : all_lines c.answers_of.new.list 0 (map reply c.deref.result.now) ≡ Lines orders events
     = ap (λ (given : List Answer). all_lines c.answers_of.new.list 0 (map reply given)) c.deref.ensures.value
     ∙ ((λ i. all_lines (did.1 i) 0 (did.0 i)) ∙ sym (told_by_last_list good 0 state (map (asked_with orders) events))) in

@@ -9,6 +9,7 @@ use std::ops::Range;
 mod steps;
 
 /// The events of a file, by rising place.
+// Beside the `Orders` of `book`: one for both would need a trait with the item, its list and its laws, and be longer.
 #[derive(Drop)]
 pub struct Events<'a> {
     filed: FiledEvents<'a>,

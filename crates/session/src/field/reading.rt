@@ -20,7 +20,7 @@ impl Width {
     }
 }
 
-// Bytes and place stay two parameters: the definitions speak of a body's bytes and a byte of it, which a refusal names.
+// Bytes and place are no plainer as one value: the definitions, and each refusal, name a byte of a body.
 
 /// The number of two bytes at a place.
 pub(crate) fn two_at(bytes: &[u8], at: usize) -> u16
