@@ -5,7 +5,7 @@ ghost use Rattle.std.specs.Prelude.{◌≡◌, ◌+◌, ◌||◌, nat_le, nat_lt
 use crate::shown::{ShownEvent, ShownTerms};
 use book::Book;
 use session::file::SessionFile;
-use std::fmt;
+use std::{fmt, io};
 
 /// How many of a long list are shown at each of its ends.
 const AT_EACH_END: usize = 8;
@@ -17,8 +17,7 @@ fn is_shown(place: usize, count: usize) -> bool
     place < AT_EACH_END || count <= AT_EACH_END || place >= count - AT_EACH_END
 }
 
-/// What an accepted file holds: `read,LASTSALE,RANKING,ORDERS,EVENTS,NOTEBYTES`, and then a line for each order and each
-/// event that is shown.
+/// What an accepted file holds: `read,LASTSALE,RANKING,ORDERS,EVENTS,NOTEBYTES`.
 #[derive(Clone, Copy)]
 pub(crate) struct Contents<'a>(pub(crate) SessionFile<'a>);
 
@@ -30,18 +29,25 @@ impl fmt::Display for Contents<'_> {
         let orders = session.resting.count();
         let events = session.events.count();
         let note = session.note.len();
-        write!(f, "read,{last_sale},{ranking},{orders},{events},{note}")?;
-        for (place, order) in session.resting.iter().enumerate() {
-            if is_shown(place, orders) {
-                write!(f, "\norder,{place},{}", ShownTerms(order.terms))?;
-            }
-        }
-        for (place, timed) in session.events.iter().enumerate() {
-            if is_shown(place, events) {
-                let time = timed.time;
-                write!(f, "\nevent,{place},{time},{}", ShownEvent(timed.event))?;
-            }
-        }
-        Ok(())
+        write!(f, "read,{last_sale},{ranking},{orders},{events},{note}")
     }
+}
+
+/// Prints a line for each order and each event that is shown. Each is written by itself, so that where the output fails
+/// the lines before it are out.
+pub(crate) fn print_records(rt: &HostRuntime, session: SessionFile<'_>) -> io::Result<()> {
+    let orders = session.resting.count();
+    for (place, order) in session.resting.iter().enumerate() {
+        if is_shown(place, orders) {
+            println!(rt; "order,{place},{}", ShownTerms(order.terms))?;
+        }
+    }
+    let events = session.events.count();
+    for (place, timed) in session.events.iter().enumerate() {
+        if is_shown(place, events) {
+            let time = timed.time;
+            println!(rt; "event,{place},{time},{}", ShownEvent(timed.event))?;
+        }
+    }
+    Ok(())
 }

@@ -47,7 +47,7 @@ mod pricing;
 mod shown;
 mod table;
 
-use crate::answer::Contents;
+use crate::answer::{Contents, print_records};
 use crate::table::{Asked, asked_of};
 use cases::case_of;
 use market::refusal::Refusal;
@@ -72,7 +72,14 @@ fn print<A: Display + Drop>(
 fn judge(rt: &HostRuntime, line: &str) -> io::Result<()> {
     let (name, text) = case_of(line);
     match text.and_then(|text| asked_of(rt.alloc(), text)) {
-        Some(Asked::Read(file)) => print(rt, name, read(&file).map(Contents)),
+        Some(Asked::Read(file)) => {
+            let session = read(&file);
+            print(rt, name, session.map(Contents))?;
+            match session {
+                Ok(session) => print_records(rt, session),
+                Err(_) => Ok(()),
+            }
+        }
         Some(Asked::Price(bounds, file)) => print(rt, name, pricing::priced(bounds, &file)),
         Some(Asked::Joined(bounds, first, second)) => {
             print(rt, name, pricing::priced_joined(bounds, &first, &second))

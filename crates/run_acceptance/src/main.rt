@@ -33,7 +33,9 @@ fn judge(rt: &HostRuntime, line: &str) -> io::Result<()> {
     match text.and_then(|text| session_of(rt.alloc(), text)) {
         Some(file) => {
             let told = report(rt.alloc(), &file)?;
-            print!(rt; "{name}\n{told}")
+            // By two writes: the name is out where there is no room for the report.
+            println!(rt; "{name}")?;
+            rt.print(told.as_str())
         }
         None => println!(rt; "{name} unreadable"),
     }

@@ -39,6 +39,7 @@ pub trait Publishes: AtStage {
     ghost has: { publishes Self.stage ≡ true };
 }
 
+// Neither `Copy` nor `Clone`, as `Auction` itself: no stage can be copied.
 /// That of `Open`.
 pub struct OpenStage;
 

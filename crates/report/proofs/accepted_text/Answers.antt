@@ -1,6 +1,6 @@
 -- What is counted, priced and written is what the session says.
-use Rattle.std.proofs.Common.{◌≡◌, ℕ, Bool, true, false, cond, List, [], ◌++◌, length, Some, None, refl, ap, ◌∙◌, arith}
-use Rattle.std.proofs.lemmas.List.{append-nil, drop_all, with_items_is}
+use Rattle.std.proofs.Common.{◌≡◌, ℕ, ◌≤◌, Bool, true, false, cond, List, [], ◌++◌, length, take, Some, None, refl, ap, ◌∙◌, arith}
+use Rattle.std.proofs.lemmas.List.{append-nil, drop_all, length-take}
 use Rattle.std.specs.List.{flat_map}
 use Rattle.market.specs.declared.order.OrderTerms.{OrderTerms}
 use Rattle.market.specs.RankingNames.{ranking_number}
@@ -29,11 +29,12 @@ same_text : (r r' e e' n n' l k lo lo' hi hi' p p' x x' : ℕ) (f f' : List ℕ)
 same_text r r' e e' n n' l k lo lo' hi hi' p p' x x' f f' a b c d g h j m =
     λ i. first_line ++ figures_text (a i) (b i) (c i) l k (d i) (g i) (h i) (j i) (m i)
 
--- a list of as many records as orders has those of the orders
-whole : (os : List OrderTerms) (fill : ℕ → ℕ) (list before : List Allotment) → length before ≡ length os → list ≡ allotted os fill before
+-- a list cut to as many records as there are orders has those of the orders
+whole : (os : List OrderTerms) (fill : ℕ → ℕ) (list before : List Allotment) (n : ℕ) → n ≡ length os → list ≡ allotted os fill (take n before)
     → list ≡ allotments os fill
-whole os fill list before long w =
-    w ∙ (ap (λ rest. allotments os fill ++ rest) (drop_all (length os) before (omega (arith, long))) ∙ append-nil (allotments os fill))
+whole os fill list before n e w =
+    let short : length (take n before) ≤ length os = omega (arith, length-take n before) in
+    w ∙ (ap (λ rest. allotments os fill ++ rest) (drop_all (length os) (take n before) short) ∙ append-nil (allotments os fill))
 
 pub returns : goal.returns
 returns c =
@@ -61,16 +62,12 @@ returns c =
     ∙ (ap (λ m. executed lo m orders (clearing_price lo m t orders)) got.high ∙ ap (λ os. executed lo hi os (clearing_price lo hi t os)) same)) in
     let lines : (lo hi : ℕ) → List OrderTerms → List ℕ = λ lo hi os. flat_map fill_line (allotments os (clearing_fills lo hi (ranking_of k) os t)) in
     let list = c.of-figures.new.list in
-    let before = c.deref_mut.result.now in
-    let long : length before ≡ length orders = omega (arith, c.deref_mut.ensures.len, c.in_ok-list.ensures.len, c.count.ensures) in
-    let kept : length list ≡ c.in_ok-list.list.len = omega (arith, c.of-figures.auto.list, c.deref_mut.ensures.len) in
-    let written : c.deref.result.now ≡ list = c.deref.ensures.value ∙ with_items_is c.in_ok-list.list list kept in
-    let fills : flat_map fill_line c.deref.result.now ≡ lines lo hi all
-    = ap (flat_map fill_line) (written ∙ whole orders (clearing_fills r.collar.lowest.cents r.collar.highest.cents (ranking_of k) orders t) list before long got.crossed.fills)
+    let fills : flat_map fill_line list ≡ lines lo hi all
+    = ap (flat_map fill_line) (whole orders (clearing_fills r.collar.lowest.cents r.collar.highest.cents (ranking_of k) orders t) list _ c.count.result c.count.ensures got.crossed.fills)
     ∙ (ap (λ m. lines m r.collar.highest.cents orders) got.low ∙ (ap (λ m. lines lo m orders) got.high ∙ ap (lines lo hi) same)) in
     c.in_ok-push_fills.ensures
-    ∙ (ap (λ bs. bs ++ flat_map fill_line c.deref.result.now) c.in_ok-text.ensures
-    ∙ (figures_then (length orders) (length events) (length f.note.now) l k r.collar.lowest.cents r.collar.highest.cents r.crossing.price.cents r.crossing.executed (flat_map fill_line c.deref.result.now)
+    ∙ (ap (λ bs. bs ++ flat_map fill_line list) c.in_ok-text.ensures
+    ∙ (figures_then (length orders) (length events) (length f.note.now) l k r.collar.lowest.cents r.collar.highest.cents r.crossing.price.cents r.crossing.executed (flat_map fill_line list)
     ∙ same_text _ _ _ _ _ _ l k _ _ _ _ _ _ _ _ _ _
     (counted (present file Resting) orders no_orders)
     (counted (present file Events) events no_events)

@@ -21,6 +21,11 @@ impl<'a> Iterator for Events<'a> {
         let place = self.places.next()?;
         self.filed.event(place)
     }
+
+    // So that a list of them is got whole, and does not grow step by step.
+    fn size_hint(&self) -> (usize, Option<usize>) {
+        self.places.size_hint()
+    }
 }
 
 impl<'a> FiledEvents<'a> {

@@ -17,9 +17,9 @@ invariant_of-event c =
     let n = two bs (at + 6) in
     let a = four bs (at + 8) in
     let b = four bs (at + 12) in
-    let named : kind_number c.unwrap.result ≡ byte bs (at + 4)
-    = MatchResult-at_ok (λ k. kind_number k ≡ c.from.result) _ c.unwrap.result c.unwrap.ensures c.try_from.ensures ∙ c.from.ensures in
-    let enters : byte bs (at + 4) ≡ 1 = sym named ∙ ap kind_number c.in-Enter.is in
+    let named : kind_number c.in-Ok-Enter.field-0 ≡ byte bs (at + 4)
+    = MatchResult-at_ok (λ k. kind_number k ≡ c.from.result) _ c.in-Ok-Enter.field-0 c.in-Ok-Enter.is c.try_from.ensures ∙ c.from.ensures in
+    let enters : byte bs (at + 4) ≡ 1 = sym named ∙ ap kind_number c.in-Ok-Enter.field-0-is in
     let sound : Sound (entered f n a b) = subst (λ k. SoundCall (call_with k f n a b)) enters (event_sound bs at c.args.self.clean).1 in
     let terms : c.entered_terms-terms.result ≡ entered f n a b
     = c.entered_terms-terms.ensures
