@@ -75,10 +75,10 @@ fn judge(rt: &HostRuntime, line: &str) -> io::Result<()> {
         Some(Asked::Read(file)) => {
             let session = read(&file);
             print(rt, name, session.map(Contents))?;
-            match session {
-                Ok(session) => print_records(rt, session),
-                Err(_) => Ok(()),
+            if let Ok(session) = session {
+                print_records(rt, session)?;
             }
+            Ok(())
         }
         Some(Asked::Price(bounds, file)) => print(rt, name, pricing::priced(bounds, &file)),
         Some(Asked::Joined(bounds, first, second)) => {

@@ -39,17 +39,17 @@ pub trait Publishes: AtStage {
     ghost has: { publishes Self.stage ≡ true };
 }
 
-// Neither `Copy` nor `Clone`, as `Auction` itself: no stage can be copied.
-/// That of `Open`.
+// The four are neither `Copy` nor `Clone`, as `Auction` itself: no stage can be copied.
+/// The stage of `Open`.
 pub struct OpenStage;
 
-/// That of `Locked`.
+/// The stage of `Locked`.
 pub struct LockedStage;
 
-/// That of `Shut`.
+/// The stage of `Shut`.
 pub struct ShutStage;
 
-/// That of `Crossed`.
+/// The stage of `Crossed`.
 pub struct CrossedStage;
 
 impl AtStage for OpenStage {

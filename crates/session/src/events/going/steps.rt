@@ -1,7 +1,8 @@
 //! The steps over the events.
 
-ghost use Rattle.std.specs.Prelude.{◌≡◌};
-ghost use Rattle.std.specs.Iterator.{YieldsFirstBy, item_count};
+ghost use Rattle.std.specs.Prelude.{◌≡◌, length, IfSome};
+ghost use Rattle.std.specs.Iterator.{UpTo, YieldsFirstBy, item_count};
+ghost use Rattle.std.specs.Iterator.SizeHint.{IsWithinCount};
 ghost use Rattle.market.specs.Calls.{timed};
 ghost use Rattle.session.specs.Going.{ahead};
 ghost use Rattle.session.specs.Records.{events_in};
@@ -23,8 +24,13 @@ impl<'a> Iterator for Events<'a> {
     }
 
     // So that a list of them is got whole, and does not grow step by step.
-    fn size_hint(&self) -> (usize, Option<usize>) {
-        self.places.size_hint()
+    fn size_hint(&self) -> (usize, Option<usize>)
+        ensures lower { IsWithinCount result.0 (item_count ahead self.now) }
+        ensures upper { IfSome result.1 (UpTo (item_count ahead self.now)) }
+        ensures exact { result.0 ≡ length (ahead self.now) }
+    {
+        let left = self.places.len();
+        (left, Some(left))
     }
 }
 
