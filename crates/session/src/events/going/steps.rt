@@ -1,6 +1,6 @@
 //! The steps over the events.
 
-ghost use Rattle.std.specs.Prelude.{◌≡◌, length, IfSome};
+ghost use Rattle.std.specs.Prelude.{◌≡◌, Some, length, IfSome};
 ghost use Rattle.std.specs.Iterator.{UpTo, YieldsFirstBy, item_count};
 ghost use Rattle.std.specs.Iterator.SizeHint.{IsWithinCount};
 ghost use Rattle.market.specs.Calls.{timed};
@@ -27,7 +27,7 @@ impl<'a> Iterator for Events<'a> {
     fn size_hint(&self) -> (usize, Option<usize>)
         ensures lower { IsWithinCount result.0 (item_count ahead self.now) }
         ensures upper { IfSome result.1 (UpTo (item_count ahead self.now)) }
-        ensures exact { result.0 ≡ length (ahead self.now) }
+        ensures exact { result ≡ (length (ahead self.now), Some (length (ahead self.now))) }
     {
         let left = self.places.len();
         (left, Some(left))
